@@ -1,0 +1,45 @@
+-- Which connections of the model an account tells of.
+use mathlib.Core.Path.{_≡_}
+use mathlib.Core.Bool.{Bool, true, false, _||_}
+use mathlib.Core.List.{List, [], _∷_, _++_, map}
+use Prim.Native.Nat.{ℕ}
+use lib.ListN.{length}
+use Rattle.hold.specs.Conn.{Conn, Last, NotSaid, At}
+use Rattle.hold.specs.World.{gone, isOpen, Found, NotThere, There, byTag}
+use Rattle.simulation.specs.Sentence.{Account}
+
+abbrev pub isSaid : Last → Bool
+isSaid NotSaid = false
+isSaid (At p) = true
+
+-- The user of a connection that is gone may go on taking what it got; the model leaves that out.
+pub record Tells (a : Account) (c : Conn) : Type 0 where
+  pub tag : a .tag ≡ c .mine
+  pub peer : a .peer ≡ c .theirs
+  pub opened : a .opened ≡ c .opened
+  pub given : a .given ≡ c .given
+  pub closed : a .closed ≡ c .closed
+  pub arrived : a .arrived ≡ length (c .got)
+  pub rest : List ℕ
+  pub taken : a .taken ++ rest ≡ c .got
+  pub count : gone (c .phase) ≡ false → length (a .taken) ≡ c .taken
+  pub heard : a .heard ≡ isSaid (c .end)
+  pub told : a .told ≡ c .ended
+  pub upto : a .upto ≡ c .upto
+  pub all : a .all ≡ c .all
+
+-- account by account, the latest first
+abbrev pub Tell : List Account → List Conn → Type 0
+Tell [] [] = Unit {0}
+Tell [] (c ∷ cs) = ⊥
+Tell (a ∷ bs) [] = ⊥
+Tell (a ∷ bs) (c ∷ cs) = Tells a c × Tell bs cs
+
+-- an account, as it is after a look at the connection that it tells of
+abbrev pub seen : Found → Account → Account
+seen NotThere a = a
+seen (There c) a = record { tag = a .tag; peer = c .theirs; opened = a .opened || isOpen (c .phase); given = a .given; closed = c .closed; arrived = length (c .got); taken = a .taken; heard = isSaid (c .end); told = c .ended; upto = c .upto; all = c .all }
+
+-- all accounts, after a look at all connections
+abbrev pub looked : List Conn → List Account → List Account
+looked cs bs = map (λ a. seen (byTag (a .tag) cs) a) bs
