@@ -1,1 +1,3 @@
 pub mod Sentences
+pub mod Looks
+pub mod Keeps
