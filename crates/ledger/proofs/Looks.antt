@@ -17,8 +17,8 @@ use Rattle.hold.specs.World.{Who, World, Ev, end, change, gone, isOpen, isAsked
 use Rattle.hold.specs.Promise.{tags, apart}
 use Rattle.hold.proofs.Bricks.{false-true}
 use Rattle.hold.proofs.Table.{mem-tags, one-tag, byTag-mem, byTag-finds, mem-changed, tags-change}
-use Rattle.simulation.specs.Sentence.{Account}
-use Rattle.simulation.specs.Tells.{isSaid, Tells, Tell, seen, looked, begun, withNew, wrote, gave, took}
+use Rattle.ledger.specs.Sentence.{Account}
+use Rattle.ledger.specs.Tells.{isSaid, Tells, Tell, seen, looked, begun, withNew, wrote, gave, took}
 
 -- accounts of a table that stays as it is
 pub tell-same : (h : Account → Account) (bs : List Account) (cs : List Conn) → Tell bs cs → ((a : Account) (c : Conn) → List·Memᴰ c cs → Tells a c → Tells (h a) c) → Tell (map h bs) cs

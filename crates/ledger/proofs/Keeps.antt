@@ -17,9 +17,9 @@ use Rattle.hold.proofs.Bricks.{false-true}
 use Rattle.hold.proofs.Table.{mem-tags, byTag-mem, mem-change, Changed, tags-change, isIn-app}
 use Rattle.hold.proofs.Puts.{end-put}
 use Rattle.hold.proofs.Inv.{inv, apart-at, TagInv}
-use Rattle.simulation.specs.Sentence.{Account}
-use Rattle.simulation.specs.Tells.{Tell, looked, begun, withNew, gave, took}
-use Rattle.simulation.proofs.Looks.{look-same, look-new, look-turn, look-gone, look-gave, look-took, Turns}
+use Rattle.ledger.specs.Sentence.{Account}
+use Rattle.ledger.specs.Tells.{Tell, looked, begun, withNew, gave, took}
+use Rattle.ledger.proofs.Looks.{look-same, look-new, look-turn, look-gone, look-gave, look-took, Turns}
 
 -- what is known of the table of an end in a run
 pub record Sound (cs : List Conn) (drawn : List ℕ) : Type 0 where

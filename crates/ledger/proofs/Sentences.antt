@@ -18,8 +18,8 @@ use Rattle.hold.proofs.Table.{mem-tags, one-tag}
 use Rattle.hold.proofs.Inv.{inv, apart-at}
 use Rattle.hold.proofs.Parts.{holds}
 use Rattle.hold.proofs.Below.{unique, told-exactly}
-use Rattle.simulation.specs.Sentence.{Account, One, Delivered, Paired, Whole, Sentence}
-use Rattle.simulation.specs.Tells.{isSaid, Tells, Tell}
+use Rattle.ledger.specs.Sentence.{Account, One, Delivered, Paired, Whole, Sentence}
+use Rattle.ledger.specs.Tells.{isSaid, Tells, Tell}
 
 -- the connection that an account of the list tells of
 abbrev Of : List Conn → Account → Type 0

@@ -7,7 +7,7 @@ use lib.Dec.{eqb}
 use lib.ListN.{length}
 use Rattle.hold.specs.Conn.{Conn, Last, NotSaid, At}
 use Rattle.hold.specs.World.{gone, isOpen, Found, NotThere, There, byTag}
-use Rattle.simulation.specs.Sentence.{Account}
+use Rattle.ledger.specs.Sentence.{Account}
 
 abbrev pub isSaid : Last → Bool
 isSaid NotSaid = false
