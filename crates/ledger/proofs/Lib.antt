@@ -1,3 +1,4 @@
 pub mod Sentences
 pub mod Looks
 pub mod Keeps
+pub mod Written

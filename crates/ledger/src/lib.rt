@@ -1,1 +1,4 @@
-// Two ends, a net that has every packet ever sent, and what is promised of what their users see.
+//! What is written down of the users of one end: of each connection that it ever had, and the bytes that they gave and
+//! were given.
+pub mod record;
+pub mod book;
