@@ -1,4 +1,6 @@
 pub mod Sentences
 pub mod Looks
-pub mod Keeps
+pub mod Steps
 pub mod Written
+pub mod Accounts
+pub mod Kept

@@ -138,7 +138,7 @@ look-gone cs t one opens bs r = subst (λ z. Tell (looked (change t (inPhase Gon
 wrote-same : (u t : ℕ) (bs : List ℕ) → u ≡ t → wrote u t bs ≡ bs
 wrote-same u t bs e = cond-true (eqb t u) bs [] (eq-eqb t u (sym e))
 
-wrote-other : (u t : ℕ) (bs : List ℕ) → (u ≡ t → ⊥) → wrote u t bs ≡ []
+pub wrote-other : (u t : ℕ) (bs : List ℕ) → (u ≡ t → ⊥) → wrote u t bs ≡ []
 wrote-other u t bs n = cond-false (eqb t u) bs [] (ne-eqb t u (λ e. n (sym e)))
 
 taken-now : (k n a g u v : ℕ) → u ≡ a → v ≡ n → n ≡ min k (g - a) → a ≤ g → u + v ≡ lower (a + k) g

@@ -1,5 +1,6 @@
 -- The accounts that a book has.
-use mathlib.Core.Bool.{Bool, false, cond, _||_}
+use mathlib.Core.Bool.{Bool, true, false, cond, _||_}
+use mathlib.Core.Path.{_≡_}
 use mathlib.Core.List.{List, [], _∷_, map, reverse}
 use Prim.Native.Nat.{ℕ}
 use lib.Dec.{eqb}
@@ -7,9 +8,12 @@ use lib.ListN.{length}
 use Rattle.std.specs.Of.Vec.{vec-items}
 use Rattle.std.specs.declared.option.Option.{Option}
 use Rattle.std.specs.declared.option.Option.the-variants.{Some, None}
-use Rattle.hold.specs.World.{isOpen, Found, NotThere, There}
+use Rattle.hold.specs.World.{isOpen, Found, NotThere, There, byTag, isIn}
+use Rattle.hold.specs.Conn.{Conn}
+use Rattle.hold.specs.Promise.{tags}
 use Rattle.ledger.specs.Sentence.{Account}
-use Rattle.ledger.specs.Tells.{isSaid}
+use Rattle.ledger.specs.Tells.{isSaid, Tell}
+use Rattle.ledger.specs.declared.book.Book.{Book}
 use Rattle.ledger.specs.declared.record.Record.{Record}
 use Rattle.ledger.specs.declared.record.Entry.{Entry}
 use Rattle.ledger.specs.declared.record.View.{View}
@@ -35,3 +39,26 @@ bytesOf t (e ∷ es) = cond (eqb (e .tag) t) (e .byte ∷ bytesOf t es) (bytesOf
 
 abbrev pub account : List Entry → List Entry → Record → Account
 account gs ts r = record { tag = r .tag; peer = r .peer; opened = r .opened; given = bytesOf (r .tag) gs; closed = r .closed; arrived = r .arrived; taken = bytesOf (r .tag) ts; heard = r .heard; told = r .told; upto = r .upto; all = r .all }
+
+-- all accounts, the latest first
+abbrev pub accountsOf : List Entry → List Entry → List Record → List Account
+accountsOf gs ts rs = map (account gs ts) (reverse rs)
+
+abbrev pub accounts : Book → List Account
+accounts b = accountsOf (vec-items (b .given)) (vec-items (b .taken)) (vec-items (b .records))
+
+abbrev pub notedBy : Option View → Record → Record
+notedBy None r = r
+notedBy (Some v) r = noted v r
+
+-- A book keeps these connections: its accounts tell of them, and no bytes are written down of others.
+pub record Keeps (b : Book) (cs : List Conn) : Type 0 where
+  pub tell : Tell (accounts b) cs
+  pub none-given : (t : ℕ) → isIn t (tags cs) ≡ false → bytesOf t (vec-items (b .given)) ≡ []
+  pub none-taken : (t : ℕ) → isIn t (tags cs) ≡ false → bytesOf t (vec-items (b .taken)) ≡ []
+
+-- y is x after a look at these connections
+pub record Looked (cs : List Conn) (x y : Book) : Type 0 where
+  pub records : vec-items (y .records) ≡ map (λ r. notedBy (viewOf (byTag (r .tag) cs)) r) (vec-items (x .records))
+  pub given : y .given ≡ x .given
+  pub taken : y .taken ≡ x .taken

@@ -51,8 +51,16 @@ byTag-front : (t u : ℕ) (cs : List Conn) → byTag t (new Half t u ∷ cs) ≡
 unfolding byTag
 byTag-front t u cs = cond-true (eqb t t && true) (There (new Half t u)) (byTag t cs) (and-from _ _ (eq-eqb t t refl) refl)
 
+-- no tag is lost
+abbrev pub Wider : Who → World → World → Type 0
+Wider o w v = (u : ℕ) → isIn u (tags (end o w .conns)) ≡ true → isIn u (tags (end o v .conns)) ≡ true
+
+pub in-new : (u : ℕ) (c : Conn) (cs : List Conn) → isIn u (tags cs) ≡ true → isIn u (tags (c ∷ cs)) ≡ true
+unfolding tags isIn
+in-new u c cs h = or-right (eqb (c .mine) u) _ h
+
 -- all accounts after a look at an end
-abbrev After : Who → World → List Account → Type 0
+abbrev pub After : Who → World → List Account → Type 0
 After o w bs = Tell (looked (end o w .conns) bs) (end o w .conns)
 
 after-put : (o : Who) (e : End) (ps : List Packet) (ts : List ℕ) (w : World) (bs : List Account) → Tell (looked (e .conns) bs) (e .conns) → After o (put o e ps ts w) bs
@@ -97,12 +105,12 @@ module _ (o : Who) (w : World) (s : Sound (end o w .conns) (w .drawn)) (bs : Lis
         go NotThere q = q
         go (There c) q = let (m, u, _) = byTag-mem t cs c q in false-true _ e (ap (λ v. isIn v (tags cs)) (sym u) ∙ mem-tags cs c m)
 
-    -- all accounts after a look, with one more if there is a connection more
-    abbrev Heard : World → Type 0
-    Heard v = After o v (withNew t (byTag t (end o v .conns)) bs)
+    -- all accounts after a look, with one more if there is a connection more; and no tag is lost
+    abbrev pub Heard : World → Type 0
+    Heard v = After o v (withNew t (byTag t (end o v .conns)) bs) × Wider o w v
 
     none-new : (v : World) → tags (end o v .conns) ≡ tags (end o w .conns) → After o v bs → Heard v
-    none-new v e a = subst (λ z. After o v (withNew t z bs)) (sym (unknown (end o v .conns) (ap (isIn t) e ∙ fresh))) a
+    none-new v e a = (subst (λ z. After o v (withNew t z bs)) (sym (unknown (end o v .conns) (ap (isIn t) e ∙ fresh))) a, λ u h. ap (isIn u) e ∙ h)
 
     says-only : (ps : List Packet) → Heard (put o (end o w) ps [] w)
     says-only ps = none-new (put o (end o w) ps [] w) (ap (λ e. tags (e .conns)) (end-put o (end o w) ps [] w)) (after-same ps)
@@ -121,8 +129,9 @@ module _ (o : Who) (w : World) (s : Sound (end o w .conns) (w .drawn)) (bs : Lis
         at-front = byTag-front t (p .from) (end o w .conns)
 
         added-one : Heard (put o (added (new Half t (p .from)) (end o w)) (bare Yes t (p .from) ∷ []) (t ∷ []) w)
-        added-one = subst (λ z. After o (put o (added (new Half t (p .from)) (end o w)) (bare Yes t (p .from) ∷ []) (t ∷ []) w) (withNew t z bs))
-            (sym (ap (λ e. byTag t (e .conns)) (end-put o (added (new Half t (p .from)) (end o w)) (bare Yes t (p .from) ∷ []) (t ∷ []) w) ∙ at-front)) (after-new Half t (p .from) (bare Yes t (p .from) ∷ []) refl refl f)
+        added-one = (subst (λ z. After o (put o (added (new Half t (p .from)) (end o w)) (bare Yes t (p .from) ∷ []) (t ∷ []) w) (withNew t z bs))
+            (sym (ap (λ e. byTag t (e .conns)) (end-put o (added (new Half t (p .from)) (end o w)) (bare Yes t (p .from) ∷ []) (t ∷ []) w) ∙ at-front)) (after-new Half t (p .from) (bare Yes t (p .from) ∷ []) refl refl f),
+          λ u h. ap (λ e. isIn u (tags (e .conns))) (end-put o (added (new Half t (p .from)) (end o w)) (bare Yes t (p .from) ∷ []) (t ∷ []) w) ∙ in-new u (new Half t (p .from)) (end o w .conns) h)
 
     on-yes : (z : Found) → byTag (p .to) (end o w .conns) ≡ z → Heard (onYes o p z w)
     on-yes NotThere e = says-only (bare Bye (p .to) (p .from) ∷ [])
