@@ -1,0 +1,2 @@
+//! The table of an end's connections.
+pub fn most() -> u8 { 16 }
