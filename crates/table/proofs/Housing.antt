@@ -7,30 +7,16 @@ use Prim.Native.Nat.{ℕ, zero, suc, _+_, _-_, _<_, _≤_}
 use native.Mathlib.Omega.{arith}
 use lib.Dec.{eqb}
 use lib.ListN.{getD, length}
-use Rattle.std.proofs.shelf.Tests.{and-right, cases-eq, cond-false, cond-true, eq-eqb, eqb-true, false≢true, ne-eqb, or-left, or-right}
+use Rattle.std.proofs.shelf.Tests.{and-right, cases-eq, cond-false, cond-true, eq-eqb, eqb-true, false≢true, ne-eqb, or-cases, or-left, or-right}
 use Rattle.std.specs.declared.option.Option.{Option}
 use Rattle.std.specs.declared.option.Option.the-variants.{Some, None}
 use Rattle.hold.specs.Code.{living}
 use Rattle.hold.specs.Conn.{Conn}
-use Rattle.hold.specs.World.{Found, NotThere, There, byTag, change, gone}
+use Rattle.hold.specs.Promise.{tags}
+use Rattle.hold.specs.World.{isIn as isTag, Found, NotThere, There, byTag, change, gone}
 use Rattle.lanes.specs.Order.{front}
 use Rattle.lanes.specs.Used.{Separate, isIn, without}
 use Rattle.table.specs.Housed.{Housed, forgot, held, left, none, seek}
-
--- one turn of a search, from the youngest
-pub seek-here : (test : ℕ → Bool) (n : ℕ) (xs : List ℕ) → 0 < n → true ≡ test (getD xs (n - 1) 0) → Some (getD xs (n - 1) 0) ≡ seek test (front n xs)
-seek-here test zero xs h e = absurd (omega arith)
-seek-here test (suc n) xs h e =
-    let q : suc n - 1 ≡ n = omega arith in
-    let e2 : test (getD xs n 0) ≡ true = subst (λ k. test (getD xs k 0) ≡ true) q (sym e) in
-    ap {B = Option ℕ} (λ k. Some (getD xs k 0)) q ∙ sym (cond-true (test (getD xs n 0)) (Some (getD xs n 0)) (seek test (front n xs)) e2)
-
-pub seek-on : (test : ℕ → Bool) (n : ℕ) (xs : List ℕ) → 0 < n → false ≡ test (getD xs (n - 1) 0) → seek test (front (n - 1) xs) ≡ seek test (front n xs)
-seek-on test zero xs h e = absurd (omega arith)
-seek-on test (suc n) xs h e =
-    let q : suc n - 1 ≡ n = omega arith in
-    let e2 : test (getD xs n 0) ≡ false = subst (λ k. test (getD xs k 0) ≡ false) q (sym e) in
-    ap (λ k. seek test (front k xs)) q ∙ sym (cond-false (test (getD xs n 0)) (Some (getD xs n 0)) (seek test (front n xs)) e2)
 
 -- what is found is there, and passes
 pub seek-finds : (test : ℕ → Bool) (l : ℕ) (ls : List ℕ) → Some l ≡ seek test ls → (isIn l ls ≡ true) × (test l ≡ true)
@@ -60,7 +46,6 @@ Agree P (Some l) (There c) = P l c
 
 module _ (P Q : ℕ → Conn → Type 0) (test : ℕ → Bool) (mtest : Conn → Bool)
     (same : (l : ℕ) (c : Conn) → P l c → test l ≡ mtest c) (skip : (c : Conn) → gone (c .phase) ≡ true → mtest c ≡ false) (skips : (l : ℕ) (c : Conn) → Q l c → test l ≡ false) where
-
   pub agree : (by : List Conn → Found) → by [] ≡ NotThere → ((c : Conn) (cs : List Conn) → by (c ∷ cs) ≡ cond (mtest c) (There c) (by cs)) →
       {ls : List ℕ} {cs : List Conn} → Housed P Q ls cs → Agree P (seek test ls) (by cs)
   agree by by-none by-more none = subst (Agree P None) (sym by-none) tt
@@ -101,6 +86,11 @@ carry P Q P′ Q′ p q (held {l = l} {ls = ls} {c = c} r t) =
 differ : (i l : ℕ) (ls : List ℕ) → isIn l ls ≡ false → isIn i ls ≡ true → l ≡ i → ⊥
 differ i l ls a b e = false≢true (sym a ∙ ap (λ k. isIn k ls) e ∙ b)
 
+-- lanes among which i is not, where no other than i changes
+pub elsewhere : (P Q P′ Q′ : ℕ → Conn → Type 0) (i : ℕ) → ((l : ℕ) (c : Conn) → (l ≡ i → ⊥) → P l c → P′ l c) → ((l : ℕ) (c : Conn) → (l ≡ i → ⊥) → Q l c → Q′ l c) →
+    {ls : List ℕ} {cs : List Conn} → isIn i ls ≡ false → Housed P Q ls cs → Housed P′ Q′ ls cs
+elsewhere P Q P′ Q′ i p q {ls} h t = carry P Q P′ Q′ (λ l c m. p l c (λ e. differ l i ls h m (sym e))) (λ l c m. q l c (λ e. differ l i ls h m (sym e))) t
+
 -- the model's test for the connection of a tag
 abbrev pub tagged : ℕ → Conn → Bool
 tagged tag c = eqb (c .mine) tag && not (gone (c .phase))
@@ -111,12 +101,7 @@ tagged-gone tag c g = and-right (eqb (c .mine) tag) (not (gone (c .phase))) (ap 
 -- the connection of a tag is changed, and so is what its lane i has
 module _ (P Q P′ Q′ : ℕ → Conn → Type 0) (tag : ℕ) (f : Conn → Conn) (test : ℕ → Bool)
     (same : (l : ℕ) (c : Conn) → P l c → test l ≡ tagged tag c) (skips : (l : ℕ) (c : Conn) → Q l c → test l ≡ false) where
-
   module _ (i : ℕ) (acts : (c : Conn) → P i c → P′ i (f c)) (still : (l : ℕ) (c : Conn) → (l ≡ i → ⊥) → P l c → P′ l c) (stillQ : (l : ℕ) (c : Conn) → (l ≡ i → ⊥) → Q l c → Q′ l c) where
-    -- lanes among which i is not
-    pub apart-from : {ls : List ℕ} {cs : List Conn} → isIn i ls ≡ false → Housed P Q ls cs → Housed P′ Q′ ls cs
-    apart-from {ls} h t = carry P Q P′ Q′ (λ l c m. still l c (λ e. differ l i ls h m (sym e))) (λ l c m. stillQ l c (λ e. differ l i ls h m (sym e))) t
-
     pub changes : {ls : List ℕ} {cs : List Conn} → Separate ls → Some i ≡ seek test ls → Housed P Q ls cs → Housed P′ Q′ ls (change tag f cs)
     unfolding change
     changes s e none = let z : _≡_ {A = ℕ} 0 1 = cc in absurd (omega arith)
@@ -125,7 +110,7 @@ module _ (P Q P′ Q′ : ℕ → Conn → Type 0) (tag : ℕ) (f : Conn → Con
     changes s e (left {l = l} {ls = ls} {c = c} {cs = cs} g q t) =
         let e2 : Some i ≡ seek test ls = e ∙ cond-false (test l) (Some l) (seek test ls) (skips l c q) in
         subst (Housed P′ Q′ (l ∷ ls)) (sym (cond-false (tagged tag c) (f c ∷ cs) (c ∷ change tag f cs) (tagged-gone tag c g)))
-          (left g (stillQ l c (differ i l ls (s .1) (seek-finds test i ls e2 .0)) q) (changes (s .2) e2 t))
+        (left g (stillQ l c (differ i l ls (s .1) (seek-finds test i ls e2 .0)) q) (changes (s .2) e2 t))
     changes s e (held {l = l} {ls = ls} {c = c} {cs = cs} p t) = go (tagged tag c) refl (λ q. changes (s .2) q t)
       where
         go : (b : Bool) → tagged tag c ≡ b → (Some i ≡ seek test ls → Housed P′ Q′ ls (change tag f cs)) → Housed P′ Q′ (l ∷ ls) (cond (tagged tag c) (f c ∷ cs) (c ∷ change tag f cs))
@@ -133,11 +118,11 @@ module _ (P Q P′ Q′ : ℕ → Conn → Type 0) (tag : ℕ) (f : Conn → Con
             let e2 : Some i ≡ Some l = e ∙ cond-true (test l) (Some l) (seek test ls) (same l c p ∙ b) in
             let e3 : i ≡ l = cc in
             subst (Housed P′ Q′ (l ∷ ls)) (sym (cond-true (tagged tag c) (f c ∷ cs) (c ∷ change tag f cs) b))
-              (held (subst (λ k. P′ k (f c)) e3 (acts c (subst (λ k. P k c) (sym e3) p))) (apart-from (ap (λ k. isIn k ls) e3 ∙ s .1) t))
+            (held (subst (λ k. P′ k (f c)) e3 (acts c (subst (λ k. P k c) (sym e3) p))) (elsewhere P Q P′ Q′ i still stillQ (ap (λ k. isIn k ls) e3 ∙ s .1) t))
         go false b ih =
             let e2 : Some i ≡ seek test ls = e ∙ cond-false (test l) (Some l) (seek test ls) (same l c p ∙ b) in
             subst (Housed P′ Q′ (l ∷ ls)) (sym (cond-false (tagged tag c) (f c ∷ cs) (c ∷ change tag f cs) b))
-              (held (still l c (differ i l ls (s .1) (seek-finds test i ls e2 .0)) p) (ih e2))
+            (held (still l c (differ i l ls (s .1) (seek-finds test i ls e2 .0)) p) (ih e2))
 
   -- nobody has the tag: nothing changes
   pub unchanged : {ls : List ℕ} {cs : List Conn} → None ≡ seek test ls → Housed P Q ls cs → Housed P Q ls (change tag f cs)
@@ -147,7 +132,7 @@ module _ (P Q P′ Q′ : ℕ → Conn → Type 0) (tag : ℕ) (f : Conn → Con
       subst (Housed P Q ls) (sym (cond-false (tagged tag c) (f c ∷ cs) (c ∷ change tag f cs) (tagged-gone tag c g))) (forgot g (unchanged e t))
   unchanged e (left {l = l} {ls = ls} {c = c} {cs = cs} g q t) =
       subst (Housed P Q (l ∷ ls)) (sym (cond-false (tagged tag c) (f c ∷ cs) (c ∷ change tag f cs) (tagged-gone tag c g)))
-        (left g q (unchanged (e ∙ cond-false (test l) (Some l) (seek test ls) (skips l c q)) t))
+      (left g q (unchanged (e ∙ cond-false (test l) (Some l) (seek test ls) (skips l c q)) t))
   unchanged e (held {l = l} {ls = ls} {c = c} {cs = cs} p t) = go (tagged tag c) refl (λ q. unchanged q t)
     where
       go : (b : Bool) → tagged tag c ≡ b → (None ≡ seek test ls → Housed P Q ls (change tag f cs)) → Housed P Q (l ∷ ls) (cond (tagged tag c) (f c ∷ cs) (c ∷ change tag f cs))
@@ -156,7 +141,7 @@ module _ (P Q P′ Q′ : ℕ → Conn → Type 0) (tag : ℕ) (f : Conn → Con
           let z : _≡_ {A = ℕ} 0 1 = cc in absurd (omega arith)
       go false b ih =
           subst (Housed P Q (l ∷ ls)) (sym (cond-false (tagged tag c) (f c ∷ cs) (c ∷ change tag f cs) b))
-            (held p (ih (e ∙ cond-false (test l) (Some l) (seek test ls) (same l c p ∙ b))))
+          (held p (ih (e ∙ cond-false (test l) (Some l) (seek test ls) (same l c p ∙ b))))
 
 -- a lane whose connection is gone is let go
 pub taken-out : (P Q : ℕ → Conn → Type 0) (i : ℕ) → ((c : Conn) → P i c → gone (c .phase) ≡ true) → {ls : List ℕ} {cs : List Conn} → Housed P Q ls cs → Housed P Q (without i ls) cs
@@ -184,9 +169,10 @@ module _ (P Q P′ Q′ : ℕ → Conn → Type 0) (i : ℕ) (over : (c : Conn) 
   also t m = (t, (m .0, List·Memᴰ·tail (m .1), m .2, m .3))
 
   here : {l : ℕ} {ls : List ℕ} {c : Conn} {cs : List Conn} → l ≡ i → isIn l ls ≡ false → gone (c .phase) ≡ true → Q i c → Housed P Q ls cs → Spent (l ∷ ls) (c ∷ cs)
-  here {l} {ls} {c} {cs} e h g q t =
-      (left g (subst (λ k. Q′ k c) (sym e) (less c q)) (carry P Q P′ Q′ (λ k d m. still k d (λ z. differ k l ls h m (e ∙ sym z))) (λ k d m. stillQ k d (λ z. differ k l ls h m (e ∙ sym z))) t),
-        (c, List·Memᴰ·head refl, g, q))
+  here {l} {ls} {c} {cs} e h g q t = (
+    left g (subst (λ k. Q′ k c) (sym e) (less c q)) (elsewhere P Q P′ Q′ i still stillQ (ap (λ k. isIn k ls) (sym e) ∙ h) t),
+    (c, List·Memᴰ·head refl, g, q),
+  )
 
   later : (l : ℕ) (ls : List ℕ) → isIn i (l ∷ ls) ≡ true → (l ≡ i → ⊥) → isIn i ls ≡ true
   later l ls m ne = ap (λ b. b || isIn i ls) (sym (ne-eqb l i ne)) ∙ m
@@ -198,12 +184,14 @@ module _ (P Q P′ Q′ : ℕ → Conn → Type 0) (i : ℕ) (over : (c : Conn) 
     where
       it : l ≡ i → Spent (l ∷ ls) (c ∷ cs)
       it e = here e (s .1) g (subst (λ k. Q k c) e q) t
+
       away : (isIn i ls ≡ true → Spent ls cs) → (l ≡ i → ⊥) → Spent (l ∷ ls) (c ∷ cs)
       away ih ne = let r = ih (later l ls m ne) in also (left g (stillQ l c ne q) (r .0)) (r .1)
   spent s m (held {l = l} {ls = ls} {c = c} {cs = cs} p t) = ⊎-elim {0, 0, 0} it (away (λ n. spent (s .2) n t)) (cases-eq l i)
     where
       it : l ≡ i → Spent (l ∷ ls) (c ∷ cs)
       it e = let o = over c (subst (λ k. P k c) e p) in here e (s .1) (o .0) (o .1) t
+
       away : (isIn i ls ≡ true → Spent ls cs) → (l ≡ i → ⊥) → Spent (l ∷ ls) (c ∷ cs)
       away ih ne = let r = ih (later l ls m ne) in also (held (still l c ne p) (r .0)) (r .1)
 
@@ -217,3 +205,20 @@ all-live P Q p q (left {l = l} {ls = ls} {c = c} g r t) = absurd (q l c (or-left
 all-live P Q p q (held {l = l} {ls = ls} {c = c} {cs = cs} r t) =
     let i = all-live P Q (λ k d m. p k d (or-right (eqb l k) (isIn k ls) m)) (λ k d m. q k d (or-right (eqb l k) (isIn k ls) m)) t in
     ap (λ b. cond b 0 1 + living cs) (p l c (or-left (eqb l l) (isIn l ls) (eq-eqb l l refl)) r) ∙ (let e : 1 + living cs ≡ suc (length ls) = omega arith in e)
+
+-- each lane is a lane
+pub lane-low : (l : ℕ) (ls : List ℕ) → Separate ls → isIn l ls ≡ true → l < 16
+lane-low l [] s m = absurd (false≢true m)
+lane-low l (k ∷ ks) s m = ⊎-elim {0, 0, 0} (λ h. subst (λ j. j < 16) (eqb-true k l h) (s .0)) (λ h. lane-low l ks (s .2) h) (or-cases (eqb k l) (isIn l ks) m)
+
+-- the tag of whatever lives in a lane is one of the model's tags
+pub lane-tag : (P Q : ℕ → Conn → Type 0) (l t : ℕ) → ((c : Conn) → P l c → c .mine ≡ t) → ((c : Conn) → Q l c → c .mine ≡ t) → {ls : List ℕ} {cs : List Conn} → isIn l ls ≡ true → Housed P Q ls cs → isTag t (tags cs) ≡ true
+unfolding isTag tags
+lane-tag P Q l t p q m none = absurd (false≢true m)
+lane-tag P Q l t p q m (forgot {c = c} {cs = cs} g h) = or-right (eqb (c .mine) t) (isTag t (tags cs)) (lane-tag P Q l t p q m h)
+lane-tag P Q l t p q m (left {l = k} {ls = ls} {c = c} {cs = cs} g r h) = ⊎-elim {0, 0, 0}
+    (λ e. or-left (eqb (c .mine) t) (isTag t (tags cs)) (eq-eqb (c .mine) t (q c (subst (λ j. Q j c) (eqb-true k l e) r))))
+    (λ e. or-right (eqb (c .mine) t) (isTag t (tags cs)) (lane-tag P Q l t p q e h)) (or-cases (eqb k l) (isIn l ls) m)
+lane-tag P Q l t p q m (held {l = k} {ls = ls} {c = c} {cs = cs} r h) = ⊎-elim {0, 0, 0}
+    (λ e. or-left (eqb (c .mine) t) (isTag t (tags cs)) (eq-eqb (c .mine) t (p c (subst (λ j. P j c) (eqb-true k l e) r))))
+    (λ e. or-right (eqb (c .mine) t) (isTag t (tags cs)) (lane-tag P Q l t p q e h)) (or-cases (eqb k l) (isIn l ls) m)
