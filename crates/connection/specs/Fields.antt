@@ -1,30 +1,37 @@
--- What is read off a connection's fields.
+-- What is read off the fields of a connection, and a connection with nothing in it.
 use mathlib.Core.Bool.{Bool, not, _&&_, _||_, false}
 use mathlib.Core.List.{[]}
 use Prim.Native.Nat.{ℕ}
 use lib.Dec.{eqb, ltb}
-use Rattle.hold.specs.World.{gone, isAsked, isOpen}
+use Rattle.hold.specs.World.{gone, isAsked}
 use Rattle.connection.specs.Phases.{phaseOf}
-use Rattle.connection.specs.declared.phase.Phase.the-variants.{Asked}
+use Rattle.connection.specs.declared.phase.Phase.the-variants.{Asked, Open, Gone}
 use Rattle.connection.specs.declared.phase.Last.the-variants.{NotSaid}
 use Rattle.connection.specs.declared.stream.Stream.{Stream}
+use Rattle.connection.specs.declared.pairing.Pairing.{Pairing}
 use Rattle.connection.specs.declared.connection.Connection.{Connection}
 
 -- something was given, or the end said, that the other has not confirmed
 abbrev pub streamOwes : Stream → Bool
 streamOwes s = ltb (s .sender .upto) (s .sender .given) || (s .closed && not (s .all))
 
--- the connection of a tag that is not gone
-abbrev pub hasTag : ℕ → Connection → Bool
-hasTag t x = eqb (x .pairing .mine) t && not (gone (phaseOf (x .pairing .phase)))
+-- the tag is this end's, and the connection is not gone
+abbrev pub hasTag : ℕ → Pairing → Bool
+hasTag t q = eqb (q .mine) t && not (gone (phaseOf (q .phase)))
 
--- the connection that answers a tag of the other, and is not gone
-abbrev pub hasPeer : ℕ → Connection → Bool
-hasPeer t x = eqb (x .pairing .theirs) t && not (gone (phaseOf (x .pairing .phase))) && not (isAsked (phaseOf (x .pairing .phase)))
+-- this end answers a tag of the other, and the connection is not gone
+abbrev pub hasPeer : ℕ → Pairing → Bool
+hasPeer t q = eqb (q .theirs) t && not (gone (phaseOf (q .phase))) && not (isAsked (phaseOf (q .phase)))
 
--- the connection is one with a tag of the other
-abbrev pub partner : ℕ → Connection → Bool
-partner t x = not (isAsked (phaseOf (x .pairing .phase))) && eqb (x .pairing .theirs) t
+-- a packet from a tag of the other is this connection's
+abbrev pub partner : ℕ → Pairing → Bool
+partner t q = not (isAsked (phaseOf (q .phase))) && eqb (q .theirs) t
+
+abbrev pub openedWith : ℕ → Pairing → Pairing
+openedWith t q = record { mine = q .mine; theirs = t; phase = Open }
+
+abbrev pub over : Pairing → Pairing
+over q = record { mine = q .mine; theirs = q .theirs; phase = Gone }
 
 -- what is read past the end of a list of connections
 abbrev pub blank : Connection

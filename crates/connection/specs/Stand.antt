@@ -12,7 +12,7 @@ use Rattle.packet.specs.Sizes.{capacity}
 use Rattle.ring.specs.Rings.{Waits, Holds}
 use Rattle.connection.specs.Phases.{phaseOf, lastOf}
 use Rattle.connection.specs.declared.stream.Stream.{Stream}
-use Rattle.connection.specs.declared.connection.Pairing.{Pairing}
+use Rattle.connection.specs.declared.pairing.Pairing.{Pairing}
 use Rattle.connection.specs.declared.connection.Connection.{Connection}
 
 -- what the code does not hold any more, or never did
