@@ -82,8 +82,8 @@ impl Connection {
         (self, n)
     }
 
-    /// A text for this connection, which opens it if it was half open. Whoever calls this has refused a text that reaches beyond
-    /// the limit of all places.
+    /// A text from the other's tag, which opens the connection if it was half open. The caller refuses one that reaches beyond the
+    /// limit of all places first, as for `Stream::hear`.
     pub fn hear(self, settings: Settings, p: Head, text: &[u8]) -> Connection
         requires { ⌜ p .place + length (now text) ≤ limit ⌝ }
         ensures { λ r. ⌜ ActsAs (cfgOf settings) self r (λ d. hears (cfgOf settings) (packetOf p (now (text .entry))) (openWith (p .from) d)) ⌝ }

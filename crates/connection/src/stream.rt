@@ -104,8 +104,8 @@ impl Stream {
         self
     }
 
-    /// A text from the other. Whoever calls this has refused a text that reaches beyond the limit of all places, since those
-    /// above 2^62 stand in no packet.
+    /// A text from the other. Its bytes must not reach beyond the limit of all places, 2^62 and a text's bytes: the caller refuses
+    /// one that does, as no stream has so many bytes.
     pub fn hear(self, settings: Settings, p: Head, text: &[u8]) -> Stream
         requires { ⌜ p .place + length (now text) ≤ limit ⌝ }
         ensures { λ r. ⌜ Flows (cfgOf settings) self r (hears (cfgOf settings) (packetOf p (now (text .entry)))) ⌝ }
