@@ -1,5 +1,5 @@
 -- The accounts that a book has.
-use mathlib.Core.Bool.{Bool, true, false, cond, _||_}
+use mathlib.Core.Bool.{Bool, true, false, cond, _||_, not}
 use mathlib.Core.Path.{_≡_}
 use mathlib.Core.List.{List, [], _∷_, map, reverse}
 use Prim.Native.Nat.{ℕ}
@@ -8,7 +8,8 @@ use lib.ListN.{length}
 use Rattle.std.specs.Of.Vec.{vec-items}
 use Rattle.std.specs.declared.option.Option.{Option}
 use Rattle.std.specs.declared.option.Option.the-variants.{Some, None}
-use Rattle.hold.specs.World.{isOpen, Found, NotThere, There, byTag, isIn}
+use Rattle.hold.specs.World.{isOpen, isAsked, Found, NotThere, There, byTag, isIn}
+use Rattle.hold.specs.Code.{owes}
 use Rattle.hold.specs.Conn.{Conn}
 use Rattle.hold.specs.Promise.{tags}
 use Rattle.ledger.specs.Sentence.{Account}
@@ -27,7 +28,7 @@ noted v r = record { tag = r .tag; peer = v .peer; opened = r .opened || v .open
 -- what is to be seen of a connection of the model
 abbrev pub viewOf : Found → Option View
 viewOf NotThere = None
-viewOf (There c) = Some (record { peer = c .theirs; opened = isOpen (c .phase); closed = c .closed; arrived = length (c .got); heard = isSaid (c .end); told = c .ended; upto = c .upto; all = c .all })
+viewOf (There c) = Some (record { peer = c .theirs; settled = not (isAsked (c .phase)); opened = isOpen (c .phase); closed = c .closed; arrived = length (c .got); heard = isSaid (c .end); told = c .ended; upto = c .upto; all = c .all; owes = owes c })
 
 abbrev pub entries : ℕ → List ℕ → List Entry
 entries t bs = map (λ b. record { tag = t; byte = b }) bs

@@ -6,6 +6,8 @@ ghost use Rattle.ledger.specs.Books.{fresh, noted};
 pub struct View {
     /// The other's tag, once it is known.
     pub peer: u64,
+    /// It is half open or open, so that the other's tag is known.
+    pub settled: bool,
     /// It is open now.
     pub opened: bool,
     pub closed: bool,
@@ -19,6 +21,8 @@ pub struct View {
     pub upto: u64,
     /// The end is confirmed too.
     pub all: bool,
+    /// Something was given, or the end said, that the other has not confirmed.
+    pub owes: bool,
 }
 
 /// What is written down of a connection, but for its bytes.
