@@ -18,7 +18,7 @@ use Rattle.hold.proofs.Table.{mem-tags, byTag-mem, tags-change}
 use Rattle.hold.proofs.Puts.{end-put}
 use Rattle.ledger.specs.Sentence.{Account}
 use Rattle.ledger.specs.Tells.{Tell, looked, begun, withNew, wrote, gave, took}
-use Rattle.ledger.specs.Books.{fresh, viewOf, entries, bytesOf, accountsOf, accounts, Keeps, Looked}
+use Rattle.ledger.specs.Books.{fresh, viewOf, entries, bytesOf, accountsOf, accounts, Keeps, Looked, Met}
 use Rattle.ledger.specs.declared.book.Book.{Book}
 use Rattle.ledger.specs.declared.record.Record.{Record}
 use Rattle.ledger.specs.declared.record.Entry.{Entry}
@@ -102,11 +102,7 @@ module _ (o : Who) (w : World) (s : Sound (end o w .conns) (w .drawn)) (x : Book
     same-accounts y er eg et = ap (λ r. accountsOf (vec-items (y .given)) (vec-items (y .taken)) r) er ∙ ap (λ g. accountsOf g (vec-items (y .taken)) (vec-items (x .records))) eg ∙ ap (λ h. accountsOf (vec-items (x .given)) h (vec-items (x .records))) et
 
     -- a packet heard
-    abbrev pub Begun : Found → Book → Type 0
-    Begun NotThere y = (vec-items (y .records) ≡ vec-items (x .records)) × (vec-items (y .given) ≡ vec-items (x .given)) × (vec-items (y .taken) ≡ vec-items (x .taken))
-    Begun (There c) y = (vec-items (y .records) ≡ vec-items (x .records) ++ fresh t ∷ []) × (vec-items (y .given) ≡ vec-items (x .given)) × (vec-items (y .taken) ≡ vec-items (x .taken))
-
-    pub keeps-heard : (cfg : Settings) (p : Packet) (h : Kind) (y z : Book) → Begun (byTag t (end o (onKind cfg o p t h w) .conns)) y → Looked (end o (onKind cfg o p t h w) .conns) y z → Keeps z (end o (onKind cfg o p t h w) .conns)
+    pub keeps-heard : (cfg : Settings) (p : Packet) (h : Kind) (y z : Book) → Met t (byTag t (end o (onKind cfg o p t h w) .conns)) x y → Looked (end o (onKind cfg o p t h w) .conns) y z → Keeps z (end o (onKind cfg o p t h w) .conns)
     keeps-heard cfg p h y z b l = go (byTag t (end o (onKind cfg o p t h w) .conns)) refl b
       where
         after : After o (onKind cfg o p t h w) (withNew t (byTag t (end o (onKind cfg o p t h w) .conns)) (accounts x)) × Wider o w (onKind cfg o p t h w)
@@ -116,6 +112,6 @@ module _ (o : Who) (w : World) (s : Sound (end o w .conns) (w .drawn)) (x : Book
         told q e ea eg et = keeps-look y z (end o (onKind cfg o p t h w) .conns) (λ u i. ap (bytesOf u) eg ∙ none-wider _ _ _ (after .1) (k .none-given) u i) (λ u i. ap (bytesOf u) et ∙ none-wider _ _ _ (after .1) (k .none-taken) u i) l
             (subst (After o (onKind cfg o p t h w)) (ap (λ g. withNew t g (accounts x)) e ∙ sym ea) (after .0))
 
-        go : (q : Found) → byTag t (end o (onKind cfg o p t h w) .conns) ≡ q → Begun q y → Keeps z (end o (onKind cfg o p t h w) .conns)
-        go NotThere e (er, eg, et) = told NotThere e (same-accounts y er eg et) eg et
-        go (There c) e (er, eg, et) = told (There c) e (begun-accounts y er eg et) eg et
+        go : (q : Found) → byTag t (end o (onKind cfg o p t h w) .conns) ≡ q → Met t q x y → Keeps z (end o (onKind cfg o p t h w) .conns)
+        go NotThere e (er, eg, et) = told NotThere e (same-accounts y er (ap vec-items eg) (ap vec-items et)) (ap vec-items eg) (ap vec-items et)
+        go (There c) e (er, eg, et) = told (There c) e (begun-accounts y er (ap vec-items eg) (ap vec-items et)) (ap vec-items eg) (ap vec-items et)

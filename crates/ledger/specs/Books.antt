@@ -1,7 +1,7 @@
 -- The accounts that a book has.
 use mathlib.Core.Bool.{Bool, true, false, cond, _||_, not}
 use mathlib.Core.Path.{_≡_}
-use mathlib.Core.List.{List, [], _∷_, map, reverse}
+use mathlib.Core.List.{List, [], _∷_, _++_, map, reverse}
 use Prim.Native.Nat.{ℕ}
 use lib.Dec.{eqb}
 use lib.ListN.{length}
@@ -52,6 +52,10 @@ abbrev pub notedBy : Option View → Record → Record
 notedBy None r = r
 notedBy (Some v) r = noted v r
 
+-- a record after a look at these connections
+abbrev pub notedIn : List Conn → Record → Record
+notedIn cs r = notedBy (viewOf (byTag (r .tag) cs)) r
+
 -- A book keeps these connections: its accounts tell of them, and no bytes are written down of others.
 pub record Keeps (b : Book) (cs : List Conn) : Type 0 where
   pub tell : Tell (accounts b) cs
@@ -60,6 +64,11 @@ pub record Keeps (b : Book) (cs : List Conn) : Type 0 where
 
 -- y is x after a look at these connections
 pub record Looked (cs : List Conn) (x y : Book) : Type 0 where
-  pub records : vec-items (y .records) ≡ map (λ r. notedBy (viewOf (byTag (r .tag) cs)) r) (vec-items (x .records))
+  pub records : vec-items (y .records) ≡ map (notedIn cs) (vec-items (x .records))
   pub given : y .given ≡ x .given
   pub taken : y .taken ≡ x .taken
+
+-- y has the records of x, and one more if a connection with the tag is there
+abbrev pub Met : ℕ → Found → Book → Book → Type 0
+Met t NotThere x y = (vec-items (y .records) ≡ vec-items (x .records)) × (y .given ≡ x .given) × (y .taken ≡ x .taken)
+Met t (There c) x y = (vec-items (y .records) ≡ vec-items (x .records) ++ fresh t ∷ []) × (y .given ≡ x .given) × (y .taken ≡ x .taken)

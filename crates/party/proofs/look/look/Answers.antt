@@ -1,5 +1,5 @@
-use Rattle.simulation.proofs.Views.{look-none, look-some}
-use Rattle.simulation.proofs.look.look.Needs as need
+use Rattle.party.proofs.Views.{look-none, look-some}
+use Rattle.party.proofs.look.look.Needs as need
 
 pub returns-in-None : need.returns-in-None
 returns-in-None c cfg cs h = look-none cfg (c .args .table .now) cs (c .args .tag) h (c .in-None .ensures tt .is)

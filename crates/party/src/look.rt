@@ -7,7 +7,7 @@ ghost use Rattle.connection.specs.Stand.{Stand1};
 ghost use Rattle.connection.specs.Phases.{lastOf};
 ghost use Rattle.ledger.specs.Books.{viewOf};
 ghost use Rattle.ledger.specs.Tells.{isSaid};
-ghost use Rattle.simulation.specs.Looks.{SeenIn};
+ghost use Rattle.party.specs.Looks.{SeenIn};
 use connection::connection::Connection;
 use connection::phase::Last;
 use ledger::record::View;

@@ -1,6 +1,6 @@
 use mathlib.Core.Path.{_≡_}
-use Rattle.simulation.proofs.Views.{view-is}
-use Rattle.simulation.proofs.look.view.Needs as need
+use Rattle.party.proofs.Views.{view-is}
+use Rattle.party.proofs.look.view.Needs as need
 
 pub returns : need.returns
 returns c cfg d s =

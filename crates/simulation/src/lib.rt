@@ -1,2 +1,0 @@
-//! Two ends and a net that has every packet ever sent, driven by any script; and what is promised of what their users see.
-pub mod look;
