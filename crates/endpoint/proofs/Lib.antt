@@ -1,2 +1,4 @@
 pub mod Ends
 pub mod Users
+pub mod Sayings
+pub mod Hearings

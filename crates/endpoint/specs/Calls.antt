@@ -16,7 +16,7 @@ use Rattle.hold.specs.World.{Breaks, Closes, End, Forgets, Found, Gives, NotThe
 use Rattle.packet.specs.Packets.{packet, sent}
 use Rattle.packet.specs.declared.packet.Packet.{Packet}
 use Rattle.ring.specs.Sending.{free, most}
-use Rattle.connection.specs.Stand.{Took}
+use Rattle.connection.specs.Stand.{Drained, Took}
 use Rattle.lanes.specs.Used.{used}
 use Rattle.table.specs.Grows.{less}
 use Rattle.table.specs.Search.{at, finds, hasRoom, isThere, orElse}
@@ -81,3 +81,31 @@ breakNumber (There c) = 0
 abbrev pub Broken : Endpoint → Endpoint → ℕ → Result (Option Packet) Refusal → Type 0
 Broken x y tag (Ok r) = Numbered x tag breakNumber 0 × Steps x y (sent r) (λ o. Breaks o tag)
 Broken x y tag (Err f) = RefusedFor x y tag breakNumber f
+
+-- n bytes of what is left of a connection that is gone, which has this tag
+pub record TookLeft (x y : Endpoint) (tag : ℕ) (before out : List ℕ) (n : ℕ) (e : End) : Type 0 where
+  pub lane : ℕ
+  pub found : Some lane ≡ finds (Gone tag) (x .table)
+  pub conn : Conn
+  pub there : List·Memᴰ conn (e .conns)
+  pub gone : gone (conn .phase) ≡ true
+  pub mine : conn .mine ≡ tag
+  pub took : Drained (cfg x) (at (x .table) lane) (at (y .table) lane) conn before out n
+
+-- n bytes taken, which stand at the front of out; of a connection that is gone too, for which the model has no step
+pub record TookSome (x y : Endpoint) (tag : ℕ) (before out : List ℕ) (n : ℕ) : Type 0 where
+  pub steps : Steps x y [] (λ o. Takes o tag (length before))
+  pub lives : (e : End) → Stands x e → (c : Conn) → byTag tag (e .conns) ≡ There c → Took c before out n
+  pub gone : (e : End) → Stands x e → byTag tag (e .conns) ≡ NotThere → TookLeft x y tag before out n e
+
+abbrev pub Taken : Endpoint → Endpoint → ℕ → List ℕ → List ℕ → Result ℕ Refusal → Type 0
+Taken x y tag before out (Ok n) = TookSome x y tag before out n
+Taken x y tag before out (Err f) = (number f ≡ 5) × (isThere tag (x .table) ≡ false) × (y ≡ x) × (out ≡ before)
+
+-- the lane of a tag: of the connection that has it, else of one that had it
+abbrev pub laneOf : ℕ → Endpoint → Option ℕ
+laneOf tag x = orElse (finds (Tag tag) (x .table)) (finds (Gone tag) (x .table))
+
+abbrev pub Forgotten : Endpoint → Endpoint → ℕ → Result (Unit {0}) Refusal → Type 0
+Forgotten x y tag (Ok u) = (isThere tag (x .table) ≡ true) × (used (y .table .lanes) ≡ less (laneOf tag x) (used (x .table .lanes))) × Steps x y [] (λ o. Forgets o tag)
+Forgotten x y tag (Err f) = (number f ≡ 5) × (isThere tag (x .table) ≡ false) × (y ≡ x)

@@ -1,8 +1,12 @@
+ghost use mathlib.Core.Bool.{false, true};
 ghost use mathlib.Core.List.{[]};
 ghost use mathlib.Core.Path.{_≡_};
 ghost use Prim.Native.Nat.{ℕ};
-ghost use Rattle.hold.specs.World.{Listens, Who, end, start};
-ghost use Rattle.endpoint.specs.Calls.{Broken, Finished, Gave, Opened};
+ghost use Rattle.hold.specs.Code.{living};
+ghost use Rattle.hold.specs.Promise.{tags};
+ghost use Rattle.hold.specs.World.{End, Listens, Who, end, isIn, start};
+ghost use Rattle.table.specs.Search.{hasRoom, isThere};
+ghost use Rattle.endpoint.specs.Calls.{Broken, Finished, Forgotten, Gave, Opened, Taken};
 ghost use Rattle.endpoint.specs.Stands.{Stands};
 ghost use Rattle.endpoint.specs.Steps.{Steps};
 use crate::Endpoint;
@@ -100,5 +104,55 @@ impl Endpoint {
         self.table.conns[lane] = c.gone();
         self.table.remove(lane);
         Ok(c.farewell())
+    }
+
+    /// Moves bytes that were got and not taken to the front of `out`, and says how many. What is left of a connection that is gone can be taken until it is forgotten.
+    pub fn take(&mut self, tag: u64, out: &mut [u8]) -> Result<usize, Refusal>
+        ensures { λ r. ⌜ Taken (now (self .entry)) (now (self .exit)) tag (now (out .entry)) (now (out .exit)) r ⌝ }
+    {
+        if let Some(lane) = self.table.find(Wanted::Tag(tag)) {
+            let (c, n) = self.table.conns[lane].take(out);
+            self.table.conns[lane] = c;
+            return Ok(n);
+        }
+        if let Some(lane) = self.table.find(Wanted::Gone(tag)) {
+            let (c, n) = self.table.conns[lane].take(out);
+            self.table.conns[lane] = c;
+            return Ok(n);
+        }
+        Err(Refusal::NotThere)
+    }
+
+    /// Forgets a connection, whether it lives or is gone; nothing goes out.
+    pub fn forget(&mut self, tag: u64) -> Result<(), Refusal>
+        ensures { λ r. ⌜ Forgotten (now (self .entry)) (now (self .exit)) tag r ⌝ }
+    {
+        if let Some(lane) = self.table.find(Wanted::Tag(tag)) {
+            let c = self.table.conns[lane];
+            self.table.conns[lane] = c.gone();
+            self.table.remove(lane);
+            return Ok(());
+        }
+        if let Some(lane) = self.table.find(Wanted::Gone(tag)) {
+            self.table.remove(lane);
+            return Ok(());
+        }
+        Err(Refusal::NotThere)
+    }
+
+    /// Whether one more connection can be opened. Where it can not, sixteen live.
+    pub fn has_room(&self) -> bool
+        ensures is { λ r. ⌜ r ≡ hasRoom (now (self .entry) .table) ⌝ }
+        ensures full { λ r. ⌜ (r ≡ false → (e : End) → Stands (now (self .entry)) e → living (e .conns) ≡ 16) ⌝ }
+    {
+        self.table.has_room()
+    }
+
+    /// Whether a connection has a tag, or had it and is not forgotten.
+    pub fn has(&self, tag: u64) -> bool
+        ensures is { λ r. ⌜ r ≡ isThere tag (now (self .entry) .table) ⌝ }
+        ensures had { λ r. ⌜ (r ≡ true → (e : End) → Stands (now (self .entry)) e → isIn tag (tags (e .conns)) ≡ true) ⌝ }
+    {
+        self.table.has(tag)
     }
 }
