@@ -1,31 +1,34 @@
 -- A call that an end did, written down, is a step of the model's end with its book.
 use mathlib.Core.Path.{_≡_, refl, sym, ap, subst, _∙_}
-use mathlib.Core.Bool.{Bool, true, false, cond, _||_, not}
+use mathlib.Core.Bool.{Bool, true, false, cond, _&&_, _||_, not}
 use mathlib.Core.List.{List, [], _∷_, _++_}
 use mathlib.Core.Logic.{_⊎_, inl, inr, ⊎-elim}
 use Prim.Native.Nat.{ℕ, _+_, _-_, _≤_, min}
 use native.Mathlib.Omega.{arith}
-use lib.Dec.{eqb}
+use lib.Dec.{eqb, leb}
 use lib.ListN.{drop, length, take}
 use Rattle.std.proofs.shelf.Lists.{length-drop, length-take, take-all, take-at}
-use Rattle.std.proofs.shelf.Tests.{cond-false, cases-bool, cases-lt}
+use Rattle.std.proofs.shelf.Tests.{and-from, and-parts, cases-bool, cases-lt, cond-both, cond-false, le-leb, leb-true}
 use Rattle.std.proofs.shelf.Ways.{tells}
 use Rattle.std.specs.Of.Vec.{vec-items}
+use Rattle.std.specs.declared.option.Option.{Option}
 use Rattle.std.specs.declared.option.Option.the-variants.{Some, None}
 use Rattle.hold.specs.Conn.{Conn, Asked, new, closes, gives, takes}
 use Rattle.hold.specs.Packet as m
-use Rattle.hold.specs.World.{Breaks, Closes, End, Ev, Found, Gives, NotThere, Opens, There, Takes, Who, World, added, byTag, end, isIn, onKind, put, step, world}
+use Rattle.hold.specs.World.{L, R, Breaks, Closes, End, Ev, Forgets, Found, Gives, NotThere, Opens, Sends, There, Takes, Who, World, added, byTag, end, isIn, onKind, put, start, step, world}
 use Rattle.hold.proofs.Bricks.{false-true}
+use Rattle.hold.proofs.Puts.{end-put}
 use Rattle.packet.specs.Packets.{kindOf, packet, packetOf, sent}
 use Rattle.packet.specs.declared.packet.Packet.{Packet}
 use Rattle.connection.specs.Stand.{Took}
 use Rattle.endpoint.specs.Calls as call
+use Rattle.endpoint.specs.Saying.{Says, uptoOf}
 use Rattle.endpoint.specs.Stands.{Stands, cfg}
-use Rattle.endpoint.specs.Hearing as hear
 use Rattle.endpoint.specs.Steps.{After, Steps}
 use Rattle.endpoint.specs.Steps as E
 use Rattle.endpoint.specs.declared.Endpoint.{Endpoint}
-use Rattle.ledger.specs.Books.{Keeps, Looked, Met, entries, fresh, viewOf}
+use Rattle.ledger.specs.Books.{Keeps, Looked, Met, accountsOf, bytesOf, entries, fresh, viewOf}
+use Rattle.ledger.specs.Tells.{Tell}
 use Rattle.ledger.specs.Ready.{SameBook, Ready}
 use Rattle.ledger.specs.Room.{RoomFor}
 use Rattle.ledger.specs.declared.book.Book.{Book}
@@ -34,7 +37,7 @@ use Rattle.ledger.proofs.Accounts.{keeps-as}
 use Rattle.ledger.proofs.Kept.{keeps-close, keeps-gone, keeps-gave, keeps-took, keeps-opened, keeps-heard}
 use Rattle.ledger.proofs.Steps.{Sound, sound}
 use Rattle.party.specs.Looks.{SeenIn}
-use Rattle.party.specs.Plays.{Plays, Acted, Acts, Draws, Moves, Stays}
+use Rattle.party.specs.Plays.{Plays, Acted, Acts, Draws, Moves, saysNow}
 use Rattle.party.specs.declared.Party.{Party}
 
 pub cut : (k n : ℕ) (bs : List ℕ) → k ≡ min n (length bs) → take (k - 0) bs ≡ take n bs
@@ -49,6 +52,11 @@ some-none e = let z : _≡_ {A = ℕ} 0 1 = cc in omega arith
 
 pub keeps-same : (x y : Book) (cs : List Conn) → SameBook x y → Keeps x cs → Keeps y cs
 keeps-same x y cs s k = keeps-as x y cs (s .records) (s .given) (s .taken) k
+
+-- what goes out while nothing else happens
+pub says-acts : (p : Party) (out : List m.Packet) (next : Who → World → World) → ((o : Who) (w : World) → Stands (p .end) (end o w) → After (p .end) out o w (next o w)) → ((o : Who) (w : World) → end o (next o w) .conns ≡ end o w .conns) → Moves p p out next
+says-acts p out next f same = record { settings = refl; acted = λ o es h. let a = f o (world (cfg (p .end)) es) (h .stands) in
+    record { plays = record { stands = a .stands; keeps = subst (Keeps (p .book)) (sym (same o (world (cfg (p .end)) es))) (h .keeps) }; sends = a .sends; far = a .far; back = a .back } }
 
 -- p became q: its end became x, what was done was written into the book b, and then a look was taken
 module _ (p q : Party) (x : Endpoint) (b : Book) (same : q .end ≡ x) (look : (e : End) → Stands x e → Looked (e .conns) b (q .book)) where
@@ -68,6 +76,12 @@ module _ (p q : Party) (x : Endpoint) (b : Book) (same : q .end ≡ x) (look : (
   broken-acts t out s eb = record {
     settings = agreed (s .settings);
     acted = λ o es h. acted out o (world (cfg (p .end)) es) _ (s .world o (world (cfg (p .end)) es) (h .stands)) (λ l. keeps-gone o (world (cfg (p .end)) es) (sound (cfg (p .end)) es o) b (subst (λ z. Keeps z (end o (world (cfg (p .end)) es) .conns)) (sym eb) (h .keeps)) t _ (q .book) l);
+  }
+
+  pub forgot-acts : (t : ℕ) → Steps (p .end) x [] (λ o. Forgets o t) → b ≡ p .book → Acts p q [] (λ o. Forgets o t)
+  forgot-acts t s eb = record {
+    settings = agreed (s .settings);
+    acted = λ o es h. acted [] o (world (cfg (p .end)) es) _ (s .world o (world (cfg (p .end)) es) (h .stands)) (λ l. keeps-gone o (world (cfg (p .end)) es) (sound (cfg (p .end)) es o) b (subst (λ z. Keeps z (end o (world (cfg (p .end)) es) .conns)) (sym eb) (h .keeps)) t [] (q .book) l);
   }
 
   -- with memory found first: the book was b₀ then
@@ -109,7 +123,7 @@ module _ (p q : Party) (x : Endpoint) (b : Book) (same : q .end ≡ x) (look : (
             go (There c) e k = keeps-gave o (world (cfg (p .end)) es) (sound (cfg (p .end)) es o) b₀ (kept _ (h .keeps)) t c (take n bs) b (q .book) e (free c k) (ap vec-items er) written (ap vec-items et) l
 
     -- bytes taken, of a connection that is seen
-    pub took-acts : (t : ℕ) (v : View) (before out ws : List ℕ) (n : ℕ) → SeenIn (p .end .table) t (Some v) → hear.TookSome (p .end) x t before out n → Ready (length before) b₀ → b .records ≡ b₀ .records → b .given ≡ b₀ .given →
+    pub took-acts : (t : ℕ) (v : View) (before out ws : List ℕ) (n : ℕ) → SeenIn (p .end .table) t (Some v) → call.TookSome (p .end) x t before out n → Ready (length before) b₀ → b .records ≡ b₀ .records → b .given ≡ b₀ .given →
         ws ≡ take n out → (RoomFor (length ws) (b₀ .taken) → vec-items (b .taken) ≡ vec-items (b₀ .taken) ++ entries t ws) → Acts p q [] (λ o. Takes o t (length before))
     took-acts t v before out ws n seen g room er eg ew et = record { settings = agreed (g .steps .settings); acted = λ o es h. acted [] o (world (cfg (p .end)) es) _ (g .steps .world o (world (cfg (p .end)) es) (h .stands)) (keeps o es h) }
       where
@@ -125,7 +139,7 @@ module _ (p q : Party) (x : Endpoint) (b : Book) (same : q .end ≡ x) (look : (
           where
             go : (f : Found) → byTag t (end o (world (cfg (p .end)) es) .conns) ≡ f → Some v ≡ viewOf (byTag t (end o (world (cfg (p .end)) es) .conns)) → Keeps (q .book) (end o (step (cfg (p .end)) (Takes o t (length before)) (world (cfg (p .end)) es)) .conns)
             go NotThere e k = absurd (some-none (k ∙ ap viewOf e))
-            go (There c) e k = let z = g .took _ (h .stands) c e in
+            go (There c) e k = let z = g .lives _ (h .stands) c e in
                 keeps-took o (world (cfg (p .end)) es) (sound (cfg (p .end)) es o) b₀ (kept _ (h .keeps)) t c (length before) n b (q .book) e (z .count) (ap vec-items er) (ap vec-items eg)
                 (et (omega (arith, room .taken, short c z)) ∙ ap (λ y. vec-items (b₀ .taken) ++ entries t y) (front c z)) l
 
@@ -136,3 +150,18 @@ module _ (p q : Party) (x : Endpoint) (b : Book) (same : q .end ≡ x) (look : (
       acted = λ o es h f. let a = g .world o (world (cfg (p .end)) es) (h .stands) f in
           acted out o (world (cfg (p .end)) es) _ a (λ l. keeps-heard o (world (cfg (p .end)) es) (sound (cfg (p .end)) es o) b₀ (kept _ (h .keeps)) t f (cfg (p .end)) k (k .kind) b (q .book) (met _ (a .stands) (room .records)) l);
     }
+
+-- nothing is written down at the start
+pub new-plays : (o : Who) (p : Party) → Stands (p .end) (end o start) → vec-items (p .book .records) ≡ [] → vec-items (p .book .given) ≡ [] → vec-items (p .book .taken) ≡ [] → Plays p (end o start)
+unfolding bytesOf
+new-plays L p s r g t = record { stands = s; keeps = record { tell = subst (λ z. Tell z []) (sym (ap (accountsOf (vec-items (p .book .given)) (vec-items (p .book .taken))) r)) tt; none-given = λ u _. ap (bytesOf u) g; none-taken = λ u _. ap (bytesOf u) t } }
+new-plays R p s r g t = record { stands = s; keeps = record { tell = subst (λ z. Tell z []) (sym (ap (accountsOf (vec-items (p .book .given)) (vec-items (p .book .taken))) r)) tt; none-given = λ u _. ap (bytesOf u) g; none-taken = λ u _. ap (bytesOf u) t } }
+
+-- a text that may go out
+pub said-acts : (p : Party) (t q k : ℕ) (r : Option Packet) → Says (p .end) t q k r → Moves p p (sent r) (λ o. saysNow (cfg (p .end)) o t q k)
+said-acts p t q k r s = says-acts p (sent r) (λ o. saysNow (cfg (p .end)) o t q k) (λ o w h. after o w h) (λ o w. cond-both (leb (uptoOf (byTag t (end o w .conns))) q && leb k (cfg (p .end) .size)) (step (cfg (p .end)) (Sends o t q k) w) w (λ v. end o v .conns ≡ end o w .conns) (λ _. ap (λ e. e .conns) (end-put o _ _ _ w)) (λ _. refl))
+  where
+    after : (o : Who) (w : World) → Stands (p .end) (end o w) → After (p .end) (sent r) o w (saysNow (cfg (p .end)) o t q k w)
+    after o w h = cond-both (leb (uptoOf (byTag t (end o w .conns))) q && leb k (cfg (p .end) .size)) (step (cfg (p .end)) (Sends o t q k) w) w (After (p .end) (sent r) o w)
+        (λ e. let (a, b) = and-parts _ _ e in s .may o w h (leb-true _ _ a) (leb-true _ _ b))
+        (λ e. subst (λ z. After (p .end) (sent z) o w w) (sym (s .other (end o w) h (λ (a, b). false-true _ e (and-from _ _ (le-leb _ _ a) (le-leb _ _ b))))) (record { stands = h; sends = refl; far = refl; back = refl }))

@@ -1,14 +1,16 @@
 -- A party plays an end of the model, step by step.
-use mathlib.Core.Bool.{false}
+use mathlib.Core.Bool.{cond, false, _&&_}
 use mathlib.Core.List.{List, [], _∷_, _++_}
 use mathlib.Core.Path.{_≡_}
 use Prim.Native.Nat.{ℕ}
+use lib.Dec.{leb}
 use lib.ListN.{take}
 use Rattle.std.specs.declared.option.Option.{Option}
 use Rattle.std.specs.declared.result.Result.{Result}
 use Rattle.std.specs.declared.result.Result.the-variants.{Ok, Err}
-use Rattle.hold.specs.Packet.{Packet}
-use Rattle.hold.specs.World.{Breaks, Due, End, Ev, Gives, Opens, Who, World, comingTo, end, isIn, onKind, other, step, world}
+use Rattle.hold.specs.Packet.{Packet, Settings}
+use Rattle.hold.specs.World.{Breaks, End, Ev, Gives, Opens, Sends, Who, World, byTag, comingTo, end, isIn, onKind, other, step, world}
+use Rattle.endpoint.specs.Saying.{uptoOf}
 use Rattle.endpoint.specs.Stands.{Stands, cfg}
 use Rattle.packet.specs.Packets.{packet, sent}
 use Rattle.packet.specs.declared.packet.Packet as c
@@ -70,7 +72,13 @@ abbrev pub Heard : Party → Party → Packet → ℕ → Result (Option c.Packe
 Heard p q k t (Ok r) = Draws p q t (sent r) (λ o. onKind (cfg (p .end)) o k t (k .kind))
 Heard p q k t (Err f) = Stays p q
 
--- what is due goes out, and nothing else happens
-abbrev pub IsDue : Party → ℕ → Result (Option c.Packet) Fault → Type 0
-IsDue p t (Ok r) = Acts p p (sent r) (λ o. Due o t)
-IsDue p t (Err f) = Unit {0}
+-- the answer to a text goes out, and nothing else happens
+abbrev pub Answered : Party → ℕ → Option c.Packet → Type 0
+Answered p t r = Moves p p (sent r) (λ o w. step (cfg (p .end)) (Sends o t (uptoOf (byTag t (end o w .conns))) (cfg (p .end) .size)) w)
+
+-- a text that may go out does, or nothing happens
+abbrev pub saysNow : Settings → Who → ℕ → ℕ → ℕ → World → World
+saysNow cfg o t q k w = cond (leb (uptoOf (byTag t (end o w .conns))) q && leb k (cfg .size)) (step cfg (Sends o t q k) w) w
+
+abbrev pub Said : Party → ℕ → ℕ → ℕ → Option c.Packet → Type 0
+Said p t q k r = Moves p p (sent r) (λ o. saysNow (cfg (p .end)) o t q k)

@@ -2,12 +2,12 @@ ghost use mathlib.Core.List.{[], _∷_, map};
 ghost use mathlib.Core.Path.{_≡_};
 ghost use lib.ListN.{length};
 ghost use Rattle.std.specs.Of.Vec.{vec-items};
-ghost use Rattle.hold.specs.World.{Closes, End, Listens, Takes, Who, byTag, end, start};
+ghost use Rattle.hold.specs.World.{Closes, Due, End, Forgets, Listens, Takes, Who, byTag, end, start};
 ghost use Rattle.endpoint.specs.Stands.{Stands};
-ghost use Rattle.packet.specs.Packets.{packet};
+ghost use Rattle.packet.specs.Packets.{packet, sent};
 ghost use Rattle.ledger.specs.Books.{Met, notedIn, viewOf};
 ghost use Rattle.ledger.specs.Room.{RoomFor};
-ghost use Rattle.party.specs.Plays.{Acts, Broken, IsDue, Plays, Gave, Heard, Opened, Seen, Tried};
+ghost use Rattle.party.specs.Plays.{Acts, Answered, Broken, Plays, Said, Gave, Heard, Opened, Seen, Tried};
 use crate::look::look;
 use crate::Fault;
 use crate::Party;
@@ -68,13 +68,24 @@ impl Party {
     }
 
     /// What is due at a tag.
-    pub fn due(&self, tag: u64) -> Result<Option<Packet>, Fault>
-        ensures { λ r. ⌜ IsDue (now (self .entry)) tag r ⌝ }
+    pub fn due(&self, tag: u64) -> Option<Packet>
+        ensures { λ r. ⌜ Acts (now (self .entry)) (now (self .entry)) (sent r) (λ o. Due o tag) ⌝ }
     {
-        match self.end.due(tag) {
-            Err(f) => Err(Fault::Refused(f)),
-            Ok(p) => Ok(p),
-        }
+        self.end.due(tag)
+    }
+
+    /// The answer to a text that brought bytes or the end.
+    pub fn answer(&self, tag: u64) -> Option<Packet>
+        ensures { λ r. ⌜ Answered (now (self .entry)) tag r ⌝ }
+    {
+        self.end.answer(tag)
+    }
+
+    /// A text that goes out because it may.
+    pub fn send(&self, tag: u64, place: u64, most: u64) -> Option<Packet>
+        ensures { λ r. ⌜ Said (now (self .entry)) tag place most r ⌝ }
+    {
+        self.end.send(tag, place, most)
     }
 
     pub fn listen(&mut self, on: bool)
@@ -189,6 +200,19 @@ impl Party {
                 self.meet(draws);
                 self.look_around();
                 Ok(r)
+            }
+        }
+    }
+
+    /// A connection is forgotten: nothing more is heard or said of it.
+    pub fn forget(&mut self, tag: u64) -> Result<(), Fault>
+        ensures { λ r. ⌜ Tried (now (self .entry)) (now (self .exit)) (λ o. Forgets o tag) r ⌝ }
+    {
+        match self.end.forget(tag) {
+            Err(f) => Err(Fault::Refused(f)),
+            Ok(_) => {
+                self.look_around();
+                Ok(())
             }
         }
     }

@@ -1,0 +1,3 @@
+//! Two ends and a net that has every packet ever sent, driven by any script; and what is promised of what their users see.
+mod halves;
+pub mod pair;
