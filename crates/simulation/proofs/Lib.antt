@@ -1,1 +1,4 @@
 pub mod Drawn
+pub mod Nets
+pub mod OneSide
+pub mod BothSides

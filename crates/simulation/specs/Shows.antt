@@ -1,15 +1,20 @@
 -- For which worlds of the model a pair stands.
-use mathlib.Core.Bool.{true}
+use mathlib.Core.Bool.{cond, true, _&&_}
 use mathlib.Core.List.{List, [], _∷_, _++_, map, reverse}
 use mathlib.Core.Path.{_≡_}
 use Prim.Native.Nat.{ℕ}
+use lib.Dec.{leb}
 use Rattle.std.specs.Of.Vec.{vec-items}
+use Rattle.std.specs.declared.result.Result.{Result}
+use Rattle.std.specs.declared.result.Result.the-variants.{Ok, Err}
 use Rattle.hold.specs.Packet as m
-use Rattle.hold.specs.World.{Ev, L, R, Who, World, comingTo, end, isIn, other, world}
+use Rattle.hold.specs.World.{Ev, L, R, Sends, Who, World, byTag, comingTo, end, isIn, other, start, world}
 use Rattle.packet.specs.Packets.{packet}
 use Rattle.packet.specs.declared.packet.Packet.{Packet}
+use Rattle.endpoint.specs.Saying.{uptoOf}
 use Rattle.endpoint.specs.Stands as E
 use Rattle.party.specs.Plays.{Plays}
+use Rattle.party.specs.declared.Fault.{Fault}
 use Rattle.party.specs.declared.Party.{Party}
 use Rattle.simulation.specs.declared.pair.Pair.{Pair}
 use Rattle.simulation.specs.declared.pair.Side.{Side}
@@ -18,6 +23,18 @@ use Rattle.simulation.specs.declared.pair.Side.the-variants.{Left, Right}
 abbrev pub whoOf : Side → Who
 whoOf Left = L
 whoOf Right = R
+
+-- the events of a call that was not refused
+abbrev pub whenOk : {A : Type 0} → (A → List Ev) → Result A Fault → List Ev
+whenOk f (Ok a) = f a
+whenOk f (Err e) = []
+
+-- the answer of a connection, and a text that goes out if it may
+abbrev pub answerOf : Party → Who → ℕ → World → List Ev
+answerOf p o t w = Sends o t (uptoOf (byTag t (end o w .conns))) (E.cfg (p .end) .size) ∷ []
+
+abbrev pub sendOf : Party → Who → ℕ → ℕ → ℕ → World → List Ev
+sendOf p o t q k w = cond (leb (uptoOf (byTag t (end o w .conns))) q && leb k (E.cfg (p .end) .size)) (Sends o t q k ∷ []) []
 
 -- the model has the latest first
 abbrev pub netOf : List Packet → List m.Packet
@@ -35,6 +52,16 @@ pub record Shows (cfg : m.Settings) (p : Pair) (w : World) : Type 0 where
   pub toL : w .toL ≡ netOf (vec-items (p .«to_left»))
   pub toR : w .toR ≡ netOf (vec-items (p .«to_right»))
   pub drawn : Drawn w (vec-items (p .drawn))
+
+abbrev pub partyOf : Who → Pair → Party
+partyOf L p = p .left
+partyOf R p = p .right
+
+abbrev pub answers : Pair → Who → ℕ → World → List Ev
+answers p o = answerOf (partyOf o p) o
+
+abbrev pub sends : Pair → Who → ℕ → ℕ → ℕ → World → List Ev
+sends p o = sendOf (partyOf o p) o
 
 -- From p to q are these events, the latest first, after every run for which p stands.
 abbrev pub Does : Pair → Pair → (World → List Ev) → Type 0
