@@ -15,7 +15,7 @@ use Rattle.endpoint.specs.Stands as E
 use Rattle.party.specs.Plays.{Acts, Gave, Plays, Stays, Tried}
 use Rattle.party.specs.declared.Fault.{Fault}
 use Rattle.party.specs.declared.Party.{Party}
-use Rattle.simulation.specs.Shows.{Does, Half, Next, Shows, netOf, whenOk}
+use Rattle.simulation.specs.Shows.{Does, Half, Next, Shows, netOf, partyOf, whenOk}
 use Rattle.simulation.specs.declared.pair.Pair.{Pair}
 use Rattle.simulation.proofs.OneSide.{half-moves, put-drawn, stepped}
 
@@ -74,3 +74,17 @@ module _ (p q : Party) (inn out : List Packet) (ts : List ℕ) where
   pub gave-half : (t : ℕ) (bs : List ℕ) (r : Result ℕ Fault) → Gave p q t bs r → Half p q inn out out ts ts (λ o _. whenOk (λ n. Gives o t (take n bs) ∷ []) r)
   gave-half t bs (Ok n) g = acts-half (λ o. Gives o t (take n bs)) (λ o w. put-drawn o _ _ _ w) g
   gave-half t bs (Err f) g = stays-half g
+
+-- what comes, by another name
+pub inn-as : (p q : Party) (inn inn′ out out′ : List Packet) (ts ts′ : List ℕ) (fs : Who → World → List Ev) → inn ≡ inn′ → Half p q inn out out′ ts ts′ fs → Half p q inn′ out out′ ts ts′ fs
+inn-as p q inn inn′ out out′ ts ts′ fs e h = subst (λ z. Half p q z out out′ ts ts′ fs) e h
+
+-- events that go by the settings of a side
+module _ (p q : Pair) (fs : Party → Who → World → List Ev) where
+  pub left-own : (o : Who) → o ≡ L → Half (p .left) (q .left) (vec-items (p .«to_left»)) (vec-items (p .«to_right»)) (vec-items (q .«to_right»)) (vec-items (p .drawn)) (vec-items (q .drawn)) (fs (p .left)) → q .right ≡ p .right → q .«to_left» ≡ p .«to_left» →
+      Does p q (fs (partyOf o p) o)
+  left-own o e h er el = subst (λ u. Does p q (fs (partyOf u p) u)) (sym e) (left-does p q (fs (p .left)) L refl h er el)
+
+  pub right-own : (o : Who) → o ≡ R → Half (p .right) (q .right) (vec-items (p .«to_right»)) (vec-items (p .«to_left»)) (vec-items (q .«to_left»)) (vec-items (p .drawn)) (vec-items (q .drawn)) (fs (p .right)) → q .left ≡ p .left → q .«to_right» ≡ p .«to_right» →
+      Does p q (fs (partyOf o p) o)
+  right-own o e h el er = subst (λ u. Does p q (fs (partyOf u p) u)) (sym e) (right-does p q (fs (p .right)) R refl h el er)

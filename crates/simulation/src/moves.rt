@@ -2,9 +2,9 @@
 ghost use lib.ListN.{length, take};
 ghost use mathlib.Core.List.{[], _∷_};
 ghost use mathlib.Core.Path.{_≡_};
-ghost use Rattle.hold.specs.World.{Breaks, Closes, Due, Forgets, Gives, Hears, Listens, Opens, Takes};
+ghost use Rattle.hold.specs.World.{Breaks, Closes, Due, Forgets, Gives, Hears, Listens, Opens, Takes, start};
 ghost use Rattle.packet.specs.Agreed.{cfgOf};
-ghost use Rattle.simulation.specs.Shows.{Does, Shows, answers, sends, start, whenOk, whoOf};
+ghost use Rattle.simulation.specs.Shows.{Does, Shows, answers, sends, whenOk, whoOf};
 use crate::halves;
 use crate::pair::Pair;
 use crate::pair::Side;
