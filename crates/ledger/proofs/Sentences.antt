@@ -109,7 +109,7 @@ module _ (cfg : Settings) (es : List Ev) (o : Who) (ls rs : List Account) (tl : 
           (u .tag ∙ ap (λ z. z .mine) (unique cfg es o x c y n (sym (u .opened) ∙ p) (sym (s .opened) ∙ k) (sym (u .peer) ∙ q ∙ s .peer)) ∙ sym (s .tag))
 
   pub whole : Whole ls rs
-  whole a m k = go (conn-of ls _ tl a m)
+  whole a m k = ∣ go (conn-of ls _ tl a m) ∣₁
     where
       go : Of (end o (world cfg es) .conns) a → Paired ls rs a
       go (c, n, s) = let h = holds cfg es o c n (sym (s .opened) ∙ k) in paired a c m k n s h (account-of rs _ tr (h .partner) (h .there))

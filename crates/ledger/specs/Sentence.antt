@@ -46,8 +46,9 @@ pub record Paired (these others : List Account) (c : Account) : Type 0 where
   pub alone : (e : Account) → List·Memᴰ e these → e .opened ≡ true → e .peer ≡ c .peer → e ≡ c
   pub delivered : Delivered c partner
 
+-- each of these that was ever open is. (What stands between ∥ and ∥₁ is so, and how it is shown is not told.)
 abbrev pub Whole : List Account → List Account → Type 0
-Whole these others = (c : Account) → List·Memᴰ c these → c .opened ≡ true → Paired these others c
+Whole these others = (c : Account) → List·Memᴰ c these → c .opened ≡ true → ∥ Paired these others c ∥₁
 
 -- THE SENTENCE, of all that is written down at the two ends: each connection that was ever open is one with just one of the other end and that one with it; what its user has been given is a first part of what the other's user gave;
 -- it is told the end exactly when that was all, the other closed, and that was heard; and what an end believes to have arrived did.

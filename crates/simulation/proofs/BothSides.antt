@@ -4,13 +4,15 @@ use mathlib.Core.List.{List, [], _∷_, _++_}
 use mathlib.Core.Path.{_≡_, refl, sym, ap, subst, _∙_}
 use Prim.Native.Nat.{ℕ}
 use lib.ListN.{take}
+use Rattle.std.proofs.shelf.Tests.{false≢true}
 use Rattle.std.specs.Of.Vec.{vec-items}
 use Rattle.std.specs.declared.result.Result.{Result}
 use Rattle.std.specs.declared.result.Result.the-variants.{Ok, Err}
 use Rattle.hold.specs.Packet as m
-use Rattle.hold.specs.World.{Ev, Gives, L, R, Who, World, end, step, world}
+use Rattle.hold.specs.World.{Ev, Gives, L, R, Who, World, end, isIn, start, step, world}
 use Rattle.packet.specs.declared.packet.Packet.{Packet}
 use Rattle.packet.specs.Agreed.{cfgOf}
+use Rattle.packet.specs.declared.settings.Settings.{Settings}
 use Rattle.endpoint.specs.Stands as E
 use Rattle.party.specs.Plays.{Acts, Gave, Plays, Stays, Tried}
 use Rattle.party.specs.declared.Fault.{Fault}
@@ -88,3 +90,7 @@ module _ (p q : Pair) (fs : Party → Who → World → List Ev) where
   pub right-own : (o : Who) → o ≡ R → Half (p .right) (q .right) (vec-items (p .«to_right»)) (vec-items (p .«to_left»)) (vec-items (q .«to_left»)) (vec-items (p .drawn)) (vec-items (q .drawn)) (fs (p .right)) → q .left ≡ p .left → q .«to_right» ≡ p .«to_right» →
       Does p q (fs (partyOf o p) o)
   right-own o e h el er = subst (λ u. Does p q (fs (partyOf u p) u)) (sym e) (right-does p q (fs (p .right)) R refl h el er)
+
+pub new-shows : (p : Pair) (s : Settings) → p .left .end .settings ≡ s → p .right .end .settings ≡ s → ((o : Who) → Plays (p .left) (end o start)) → ((o : Who) → Plays (p .right) (end o start)) → vec-items (p .«to_left») ≡ [] → vec-items (p .«to_right») ≡ [] → Shows (cfgOf s) p start
+unfolding isIn
+new-shows p s el er l r tl tr = record { cfg-left = ap cfgOf el; cfg-right = ap cfgOf er; left = l L; right = r R; toL = sym (ap netOf tl); toR = sym (ap netOf tr); drawn = λ t h. absurd (false≢true h) }

@@ -2,3 +2,4 @@ pub mod Drawn
 pub mod Nets
 pub mod OneSide
 pub mod BothSides
+pub mod Kept
