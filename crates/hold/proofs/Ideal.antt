@@ -1,14 +1,15 @@
--- An ideal code, whose states are the ends themselves: it shows that no field of `Code` contradicts another, and counts for nothing else. Assumes nothing.
-use mathlib.Core.Path.{_≡_, refl, ap, subst}
+-- An ideal code, whose states are the ends themselves: it shows that no field of `Code` and `Clocks` contradicts another, and counts for nothing else. Assumes nothing.
+use mathlib.Core.Path.{_≡_, refl, sym, ap, subst, _∙_}
 use mathlib.Core.Bool.{Bool, true, false, cond, _&&_, _||_, not}
-use mathlib.Core.List.{List, [], _∷_, _++_}
+use mathlib.Core.List.{List, [], _∷_, _++_, List·Memᴰ}
 use Prim.Native.Nat.{ℕ}
 use native.Mathlib.Omega.{arith}
-use lib.Dec.{eqb}
+use lib.Dec.{eqb, leb}
+use Rattle.std.proofs.shelf.Tests.{and-parts, cond-true, cond-false, leb-true}
 use Rattle.hold.specs.Packet.{Settings, Packet, Kind, Ask, Yes, Text, Bye, bare}
 use Rattle.hold.specs.Conn.{Asked, Half, Gone, new, inPhase, openWith, gives, closes, takes, hears, says}
 use Rattle.hold.specs.World.{Who, L, R, End, World, Ev, start, Listens, Opens, Due, Gives, Closes, Takes, Sends, Breaks, Forgets, Hears, end, other, comingTo, put, changed, added, isIn, isAsked, onAsk, onYes, onText, onBye, onKind, step, Found, NotThere, There, byTag, byTheirs, saysIf, dueIf, byeIf}
-use Rattle.hold.specs.Code.{Code, sameWho, ofEnd, idle}
+use Rattle.hold.specs.Code.{Code, Clocks, SameEnd, CodeCanBe, sameWho, ofEnd, idle, forgetAll, dueAll}
 use Rattle.hold.specs.Promise.{tags}
 use Rattle.hold.proofs.Bricks.{false-true, true→T}
 use Rattle.hold.proofs.Table.{mem-tags}
@@ -32,6 +33,23 @@ call (Breaks o t) s = changed t (inPhase Gone) s
 call (Forgets o t) s = changed t (inPhase Gone) s
 call (Hears o i t) s = s
 
+-- a text that goes out because it may begins at or above upto, and is not too long
+abbrev sendFits : Settings → ℕ → ℕ → Found → Bool
+sendFits cfg p k NotThere = true
+sendFits cfg p k (There c) = leb (c .upto) p && leb k (cfg .size)
+
+abbrev fits : Settings → Ev → End → Bool
+fits cfg (Listens o b) s = true
+fits cfg (Opens o t) s = true
+fits cfg (Due o t) s = true
+fits cfg (Gives o t bs) s = true
+fits cfg (Closes o t) s = true
+fits cfg (Takes o t k) s = true
+fits cfg (Sends o t p k) s = sendFits cfg p k (byTag t (s .conns))
+fits cfg (Breaks o t) s = true
+fits cfg (Forgets o t) s = true
+fits cfg (Hears o i t) s = true
+
 abbrev out : Settings → Ev → End → List Packet
 out cfg (Listens o b) s = []
 out cfg (Opens o t) s = cond (eqb t 0) [] (bare Ask t 0 ∷ [])
@@ -39,7 +57,7 @@ out cfg (Due o t) s = dueIf cfg (byTag t (s .conns))
 out cfg (Gives o t bs) s = []
 out cfg (Closes o t) s = []
 out cfg (Takes o t k) s = []
-out cfg (Sends o t p k) s = saysIf cfg p k (byTag t (s .conns))
+out cfg (Sends o t p k) s = cond (sendFits cfg p k (byTag t (s .conns))) (saysIf cfg p k (byTag t (s .conns))) []
 out cfg (Breaks o t) s = byeIf (byTag t (s .conns))
 out cfg (Forgets o t) s = []
 out cfg (Hears o i t) s = []
@@ -62,17 +80,17 @@ module _ (cfg : Settings) (o : Who) (w : World) where
   opens t false true h = by-none o w
   opens t false false h = by-put o w _ _ _
 
-  does-at : (e : Ev) → ofEnd o e ≡ true → ((p : Who) (t : ℕ) → e ≡ Opens p t → isIn t (w .drawn) ≡ false) → Does o w (call e (end o w)) (out cfg e (end o w)) (step cfg e w)
-  does-at (Listens p b) h f = rw (who-same o p h) (by-put o w _ _ _)
-  does-at (Opens p t) h f = rw (who-same o p h) (opens t (isIn t (w .drawn)) (eqb t 0) (f p t refl))
-  does-at (Due p t) h f = rw (who-same o p h) (by-put o w _ _ _)
-  does-at (Gives p t bs) h f = rw (who-same o p h) (by-put o w _ _ _)
-  does-at (Closes p t) h f = rw (who-same o p h) (by-put o w _ _ _)
-  does-at (Takes p t k) h f = rw (who-same o p h) (by-put o w _ _ _)
-  does-at (Sends p t q k) h f = rw (who-same o p h) (by-put o w _ _ _)
-  does-at (Breaks p t) h f = rw (who-same o p h) (by-put o w _ _ _)
-  does-at (Forgets p t) h f = rw (who-same o p h) (by-put o w _ _ _)
-  does-at (Hears p i t) h f = false-true _ refl h
+  does-at : (e : Ev) → ofEnd o e ≡ true → fits cfg e (end o w) ≡ true → ((p : Who) (t : ℕ) → e ≡ Opens p t → isIn t (w .drawn) ≡ false) → Does o w (call e (end o w)) (out cfg e (end o w)) (step cfg e w)
+  does-at (Listens p b) h z f = rw (who-same o p h) (by-put o w _ _ _)
+  does-at (Opens p t) h z f = rw (who-same o p h) (opens t (isIn t (w .drawn)) (eqb t 0) (f p t refl))
+  does-at (Due p t) h z f = rw (who-same o p h) (by-put o w _ _ _)
+  does-at (Gives p t bs) h z f = rw (who-same o p h) (by-put o w _ _ _)
+  does-at (Closes p t) h z f = rw (who-same o p h) (by-put o w _ _ _)
+  does-at (Takes p t k) h z f = rw (who-same o p h) (by-put o w _ _ _)
+  does-at (Sends p t q k) h z f = rw (who-same o p h) (subst (λ ps. Does o w (end o w) ps (step cfg (Sends o t q k) w)) (sym (cond-true _ (saysIf cfg q k (byTag t (end o w .conns))) [] z)) (by-put o w _ _ _))
+  does-at (Breaks p t) h z f = rw (who-same o p h) (by-put o w _ _ _)
+  does-at (Forgets p t) h z f = rw (who-same o p h) (by-put o w _ _ _)
+  does-at (Hears p i t) h z f = false-true _ refl h
 
 -- what becomes of an end that hears a packet, and what it sends: the same case analysis as onKind, over an end alone
 pub record Turn : Type 0 where
@@ -137,36 +155,66 @@ abbrev answerTo : Settings → Found → List Packet
 answerTo cfg NotThere = []
 answerTo cfg (There d) = says cfg (d .upto) (cfg .size) d ∷ []
 
-pub ideal : (cfg : Settings) (most : ℕ) → Code cfg most
-unfolding idle
+refused : (cfg : Settings) (e : Ev) (s : End) → fits cfg e s ≡ false → (call e s ≡ s) × (out cfg e s ≡ [])
+refused cfg (Listens o b) s h = false-true _ h refl
+refused cfg (Opens o t) s h = false-true _ h refl
+refused cfg (Due o t) s h = false-true _ h refl
+refused cfg (Gives o t bs) s h = false-true _ h refl
+refused cfg (Closes o t) s h = false-true _ h refl
+refused cfg (Takes o t k) s h = false-true _ h refl
+refused cfg (Sends o t p k) s h = (refl, cond-false _ _ _ h)
+refused cfg (Breaks o t) s h = false-true _ h refl
+refused cfg (Forgets o t) s h = false-true _ h refl
+refused cfg (Hears o i t) s h = false-true _ h refl
+
+pub ideal : (cfg : Settings) (most : ℕ) → Code cfg most End SameEnd
 ideal cfg most = record {
-  State = End;
-  stands = λ s. s;
   first = record { conns = []; listens = false };
   first-so = firsts;
-  fits = λ _ _. true;
+  had = λ _ _. true;
+  fits = fits cfg;
   call = call;
   out = out cfg;
   room-for = λ _. true;
   hears = λ p t s. onKind′ cfg p t (p .kind) s .now;
   outOfHears = λ p t s. onKind′ cfg p t (p .kind) s .sent;
-  does = λ o e h w s q _ f. subst (λ z. (end o (step cfg e w) ≡ call e z) × (comingTo (other o) (step cfg e w) ≡ out cfg e z ++ comingTo (other o) w)) q (let d = does-at cfg o w e h f in (d .becomes, d .sends));
-  refuses = λ e s h. false-true _ h refl;
-  hears-so = λ o p t w s q n _. subst (λ z. (end o (onKind cfg o p t (p .kind) w) ≡ onKind′ cfg p t (p .kind) z .now) × (comingTo (other o) (onKind cfg o p t (p .kind) w) ≡ onKind′ cfg p t (p .kind) z .sent ++ comingTo (other o) w)) q
-      (let d = kind-at cfg o w p t n (p .kind) in (d .becomes, d .sends));
-  drops = λ p t s _ h. false-true _ h refl;
-  has-room = λ _ _. refl;
-  opens-fit = λ _ _ _ _ _. refl;
-  gives-fit = λ _ _ _ _ _ _ _ _. refl;
-  others-fit = λ _ _ _ _ _. (refl, refl, refl, refl, refl, refl);
-  tick = λ s. s;
-  tick-same = λ _. refl;
-  clock = λ s. tags (s .conns);
-  comes = λ o s c m _. (0, omega arith, true→T _ (mem-tags _ c m));
-  answer = λ p t s. answerTo cfg (byTag (p .to) (onKind′ cfg p t (p .kind) s .now .conns));
-  answers = λ p t s d e _ _ _. ap (answerTo cfg) e;
+  does = does;
+  refuses = λ e s x h q. let (a, b) = refused cfg e s h in (a ∙ q, b);
+  hears-so = λ o p t w s q _ n _ _ _ _. hears-at o p t w s q n;
+  drops = λ p t s x _ _ h. false-true _ h refl;
+  has-room = λ _ _ _ _. refl;
+  opens-fit = λ _ _ _ _ _ _ _ _ _. refl;
+  gives-fit = λ _ _ _ _ _ _ _ _ _ _ _ _ _. refl;
+  others-fit = λ _ _ _ _ _. (refl, refl, refl, λ _ _ _ _ _. ((λ _. refl), refl, refl));
+  only-had = λ _ _ _ _. refl;
+  opened-had = λ _ _ _ _. refl;
+  more = λ o t p k s x c q e f. let h = subst (λ z. sendFits cfg p k z ≡ true) (ap (λ z. byTag t (z .conns)) q ∙ e) f in let (a, b) = and-parts (leb (c .upto) p) (leb k (cfg .size)) h in (leb-true _ _ a, leb-true _ _ b);
 }
   where
-    firsts : (o : Who) → end o start ≡ record { conns = []; listens = false }
+    firsts : (o : Who) → record { conns = []; listens = false } ≡ end o start
     firsts L = refl
     firsts R = refl
+
+    does : (o : Who) (e : Ev) → ofEnd o e ≡ true → (w : World) (s : End) → s ≡ end o w → fits cfg e s ≡ true → ((p : Who) (t : ℕ) → e ≡ Opens p t → isIn t (w .drawn) ≡ false) →
+        (call e s ≡ end o (step cfg e w)) × (comingTo (other o) (step cfg e w) ≡ out cfg e s ++ comingTo (other o) w)
+    does o e h w s q z f = let d = does-at cfg o w e h (subst (λ y. fits cfg e y ≡ true) q z) f in (ap (call e) q ∙ sym (d .becomes), d .sends ∙ ap (λ y. out cfg e y ++ comingTo (other o) w) (sym q))
+
+    hears-at : (o : Who) (p : Packet) (t : ℕ) (w : World) (s : End) → s ≡ end o w → isIn t (w .drawn) ≡ false →
+        (onKind′ cfg p t (p .kind) s .now ≡ end o (onKind cfg o p t (p .kind) w)) × (comingTo (other o) (onKind cfg o p t (p .kind) w) ≡ onKind′ cfg p t (p .kind) s .sent ++ comingTo (other o) w)
+    hears-at o p t w s q n = let d = kind-at cfg o w p t n (p .kind) in (ap (λ y. onKind′ cfg p t (p .kind) y .now) q ∙ sym (d .becomes), d .sends ∙ ap (λ y. onKind′ cfg p t (p .kind) y .sent ++ comingTo (other o) w) (sym q))
+
+pub ideal-clocks : (cfg : Settings) (most : ℕ) → Clocks cfg most End SameEnd (ideal cfg most)
+unfolding ideal idle forgetAll dueAll isIn
+ideal-clocks cfg most = record {
+  tick = λ s. s;
+  tick-same = λ _ _ q. q;
+  expires = λ _. [];
+  clock = λ s. tags (s .conns);
+  comes = λ o s x c q m _. (0, omega arith, true→T _ (mem-tags _ c (subst (λ z. List·Memᴰ c (z .conns)) (sym q) m)));
+  lasts = λ _ _ _ _ _ _. refl;
+  answer = λ p t s. answerTo cfg (byTag (p .to) (onKind′ cfg p t (p .kind) s .now .conns));
+  answers = λ p t s x d q e _ _ _. ap (λ z. answerTo cfg (byTag (p .to) (z .conns))) q ∙ ap (answerTo cfg) e;
+}
+
+pub code-can-be : CodeCanBe
+code-can-be cfg most = (ideal cfg most, ideal-clocks cfg most)

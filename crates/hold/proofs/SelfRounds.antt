@@ -15,12 +15,15 @@ use Rattle.hold.specs.World.{Who, Ev, Due, Takes, Sends, Hears, end, other, co
 use Rattle.hold.specs.Promise.{At, One, lives}
 use Rattle.hold.specs.Code.{owes, wantsAnswer, hasBytes}
 use Rattle.hold.specs.Self.{Self, speaks, made, NoStandSelf}
+use Rattle.hold.specs.Live.{Heard}
+use Rattle.hold.specs.Rules.{isHalf}
 use Rattle.hold.proofs.Bricks.{false-true}
 use Rattle.hold.proofs.Table.{one-tag}
-use Rattle.hold.proofs.Truth.{FactsOf, front-length, isHalf}
-use Rattle.hold.proofs.Carry.{Heard, hears-due, first-byte, larger-one, last-due}
+use Rattle.hold.proofs.Truth.{FactsOf, front-length}
+use Rattle.hold.proofs.Carry.{hears-due, first-byte, larger-one, last-due}
 use Rattle.hold.proofs.Inv.{inv, apart-at}
-use Rattle.hold.proofs.Rounds.{both-half, drop-length, front-all, taken-all}
+use Rattle.hold.proofs.Live.{both-half, drop-length, front-all, missing}
+use Rattle.hold.proofs.Rounds.{taken-all}
 use Rattle.hold.proofs.SelfMoves.{opp, Alive, Pair, swap, pair-facts, by-clock, by-answer, by-take, by-text, by-yes, Reach, reach-none, reach-reach, reach-le, clock-reach, take-reach, answer-reach, yes-reach, some-reach}
 
 -- the due text of one that owes something is answered
@@ -212,10 +215,6 @@ module _ (cfg : Settings) (pos : 0 < cfg .room) (m : ℕ) (es : List Ev) (o p : 
       (reach-reach cfg 1 2 es fs₁ fs₃ (clock-reach cfg es p o d c (swap cfg es o p c d u) (says-yes (d .phase) half-d)) (yes-reach cfg fs₁ o p c d y q qs come refl (u .one .1) refl open-c))
       (some-reach cfg fs₃ p o (hears cfg (due cfg c) (openWith (c .mine) d)) c t (due cfg c) ps come′ refl (u .one .0) refl refl)
 
--- what is given and not got
-abbrev size : Conn → Conn → ℕ
-size c d = length (drop (length (c .got)) (d .given))
-
 module _ (cfg : Settings) (pos : 0 < cfg .room) (es : List Ev) (o : Who) (c d : Conn) (m : At o (world cfg es) c) (n : At (other o) (world cfg es) d) (one : One c d) where
   alive : (h : Phase) → T (lives h) → Alive h
   alive Asked t = absurd t
@@ -226,13 +225,13 @@ module _ (cfg : Settings) (pos : 0 < cfg .room) (es : List Ev) (o : Who) (c d : 
   pair : T (lives (c .phase)) → T (lives (d .phase)) → Pair cfg es o (other o) c d
   pair s t = record { ends = opp o; at-c = m; at-d = n; live-c = alive _ s; live-d = alive _ t; one = one }
 
-  left : length (d .given) ≤ length (c .got) + size c d
+  left : length (d .given) ≤ length (c .got) + missing c d
   left = drop-length (length (c .got)) (d .given)
 
-  pub all-done : T (lives (c .phase)) → T (lives (d .phase)) → (h k : Phase) → c .phase ≡ h → d .phase ≡ k → T (lives h) → T (lives k) → Done cfg (6 * size c d + 12) es o c d
-  all-done s t h Open e f _ _ = all-rounds cfg pos (size c d) es o (other o) c d (pair s t) f left
-  all-done s t Open Half e f _ _ = half-done cfg pos (size c d) es o (other o) c d (pair s t) e f left
-  all-done s t Half Half e f _ _ = both-half cfg pos es o c d m n one (ap isHalf e) (ap isHalf f)
+  pub all-done : T (lives (c .phase)) → T (lives (d .phase)) → (h k : Phase) → c .phase ≡ h → d .phase ≡ k → T (lives h) → T (lives k) → Done cfg (6 * missing c d + 12) es o c d
+  all-done s t h Open e f _ _ = all-rounds cfg pos (missing c d) es o (other o) c d (pair s t) f left
+  all-done s t Open Half e f _ _ = half-done cfg pos (missing c d) es o (other o) c d (pair s t) e f left
+  all-done s t Half Half e f _ _ = both-half cfg (world cfg es) (inv cfg es) o c d m n one (ap isHalf e) (ap isHalf f)
   all-done s t Asked Half e f z _ = absurd z
   all-done s t Gone Half e f z _ = absurd z
   all-done s t h Asked e f _ z = absurd z
@@ -241,7 +240,7 @@ module _ (cfg : Settings) (pos : 0 < cfg .room) (es : List Ev) (o : Who) (c d : 
 pub no-stand-self : NoStandSelf
 no-stand-self cfg pos es o c d m n s t one = go (all-done cfg pos es o c d m n one s t (c .phase) (d .phase) refl refl s t)
   where
-    go : Done cfg (6 * size c d + 12) es o c d → (ms : List Self) × (length (made cfg es ms) ≤ 6 * size c d + 12) ×
+    go : Done cfg (6 * missing c d + 12) es o c d → (ms : List Self) × (length (made cfg es ms) ≤ 6 * missing c d + 12) ×
         ((x : Conn) → At o (world cfg (made cfg es ms ++ es)) x → x .mine ≡ c .mine → (x .got ≡ d .given) × (d .closed ≡ true → x .ended ≡ true))
     go r = (
       r .reach .by,
