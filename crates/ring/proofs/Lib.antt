@@ -1,0 +1,4 @@
+pub mod Copies
+pub mod Senders
+pub mod Turns
+pub mod Receivers
