@@ -2,3 +2,4 @@ pub mod Ends
 pub mod Users
 pub mod Sayings
 pub mod Hearings
+pub mod Leaving

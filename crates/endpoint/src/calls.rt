@@ -111,13 +111,13 @@ impl Endpoint {
         ensures { λ r. ⌜ Taken (now (self .entry)) (now (self .exit)) tag (now (out .entry)) (now (out .exit)) r ⌝ }
     {
         if let Some(lane) = self.table.find(Wanted::Tag(tag)) {
-            let (c, n) = self.table.conns[lane].take(out);
-            self.table.conns[lane] = c;
+            let (taken, n) = self.table.conns[lane].take(out);
+            self.table.conns[lane] = taken;
             return Ok(n);
         }
         if let Some(lane) = self.table.find(Wanted::Gone(tag)) {
-            let (c, n) = self.table.conns[lane].take(out);
-            self.table.conns[lane] = c;
+            let (drained, n) = self.table.conns[lane].take(out);
+            self.table.conns[lane] = drained;
             return Ok(n);
         }
         Err(Refusal::NotThere)
@@ -128,8 +128,8 @@ impl Endpoint {
         ensures { λ r. ⌜ Forgotten (now (self .entry)) (now (self .exit)) tag r ⌝ }
     {
         if let Some(lane) = self.table.find(Wanted::Tag(tag)) {
-            let c = self.table.conns[lane];
-            self.table.conns[lane] = c.gone();
+            let living = self.table.conns[lane];
+            self.table.conns[lane] = living.gone();
             self.table.remove(lane);
             return Ok(());
         }
