@@ -55,7 +55,7 @@ still-lives Gone a = false-true _ (a .stays) refl
 pub pair-of : (cfg : Settings) (es : List Ev) (o : Who) (c d : Conn) → Both cfg es o c d → Pair cfg es o (other o) c d
 pair-of cfg es o c d b = record { ends = opp o; at-c = b .at-c; at-d = b .at-d; live-c = alive _ (b .live-c); live-d = alive _ (b .live-d); one = b .one }
 
-both-of : (cfg : Settings) (es : List Ev) (o : Who) (c d : Conn) → Pair cfg es o (other o) c d → Both cfg es o c d
+pub both-of : (cfg : Settings) (es : List Ev) (o : Who) (c d : Conn) → Pair cfg es o (other o) c d → Both cfg es o c d
 both-of cfg es o c d u = record { at-c = u .at-c; at-d = u .at-d; live-c = still-lives _ (u .live-c); live-d = still-lives _ (u .live-d); one = u .one }
 
 -- the rounds that are wanted

@@ -70,7 +70,7 @@ unfoldable pub drive : Settings → List Ev → (n : ℕ) → Who → (t s k : �
 drive cfg es zero o t s k = []
 drive cfg es (suc n) o t s k = cond (speaksIn (byTag s (end (other o) (world cfg es) .conns))) (drive cfg (made cfg es (roundMoves o t s k) ++ es) n o t s k ++ roundMoves o t s k) []
 
--- They bring over all that was given, however large n is, and every event is counted.
+-- If n is as many as are wanted, or more, they bring over all that was given; every event is counted.
 abbrev pub DriveBrings : Type 0
 DriveBrings =
     (cfg : Settings) → 0 < cfg .room → (es : List Ev) (o : Who) (c d : Conn) → Both cfg es o c d → (k n : ℕ) → 0 < k → left c d ≤ n →
