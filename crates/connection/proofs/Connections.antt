@@ -1,10 +1,9 @@
 -- Steps of a connection that are not its stream's alone.
-use mathlib.Core.Path.{_≡_, sym, ap, subst, _∙_}
-use mathlib.Core.Bool.{true, _&&_, _||_, not}
+use mathlib.Core.Path.{_≡_, ap, subst, _∙_}
+use mathlib.Core.Bool.{true, not}
 use mathlib.Core.List.{List}
 use Prim.Native.Nat.{ℕ, _-_, min}
 use lib.ListN.{length}
-use lib.Dec.{ltb}
 use Rattle.hold.specs.Packet as m
 use Rattle.hold.specs.Conn.{Conn, openWith}
 use Rattle.ring.specs.Rings.{Holds}

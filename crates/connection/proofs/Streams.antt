@@ -1,21 +1,21 @@
 -- Steps of a stream, between whomever it is.
-use mathlib.Core.Path.{_≡_, refl, sym, ap, subst, _∙_}
-use mathlib.Core.Bool.{Bool, true, false, cond, _||_}
+use mathlib.Core.Path.{_≡_, sym, ap, _∙_}
+use mathlib.Core.Bool.{Bool, false, cond, _||_}
 use mathlib.Core.List.{List, [], _++_}
 use Prim.Native.Nat.{ℕ, _+_, _-_, _≤_, min, max}
 use native.Mathlib.Omega.{arith}
-use lib.ListN.{length, take, drop}
-use Rattle.std.proofs.shelf.Tests.{cond-true, cond-false}
+use lib.ListN.{length}
+use Rattle.std.proofs.shelf.Tests.{cond-false}
 use Rattle.hold.specs.Packet as m
 use Rattle.hold.specs.Packet.{Piece, larger, lower}
-use Rattle.hold.specs.Conn.{Conn, new, gives, takes, advance, ends, said, heard, keep, turn, from}
+use Rattle.hold.specs.Conn.{gives, takes, advance, ends, said, heard, keep, turn, from}
 use Rattle.hold.proofs.Bridge.{larger-lib, lower-lib}
 use Rattle.packet.specs.Sizes.{capacity}
 use Rattle.ring.specs.Rings.{Waits, Holds}
 use Rattle.ring.specs.declared.sender.Sender.{Sender}
 use Rattle.ring.specs.declared.receiver.Receiver.{Receiver}
-use Rattle.connection.specs.Phases.{phaseOf, lastOf}
-use Rattle.connection.specs.Stand.{Past, connOf, Stand1, Flows, Began, join}
+use Rattle.connection.specs.Phases.{lastOf}
+use Rattle.connection.specs.Stand.{Past, connOf, Flows, Began, join}
 use Rattle.connection.specs.declared.phase.Last.{Last}
 use Rattle.connection.specs.declared.phase.Last.the-variants.{NotSaid}
 use Rattle.connection.specs.declared.stream.Stream.{Stream}

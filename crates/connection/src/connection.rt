@@ -1,7 +1,7 @@
-ghost use lib.ListN.{length, take, drop};
+ghost use lib.ListN.{length, take};
 ghost use mathlib.Core.Bool.{cond};
 ghost use mathlib.Core.Path.{_≡_};
-ghost use Prim.Native.Nat.{ℕ, _+_, _≤_, min, max};
+ghost use Prim.Native.Nat.{_+_, _≤_, min, max};
 ghost use Rattle.hold.specs.Code.{owes};
 ghost use Rattle.hold.specs.Conn.{Conn, new, inPhase, openWith, gives, closes, takes, hears, says, due, Gone};
 ghost use Rattle.hold.specs.Packet as m;

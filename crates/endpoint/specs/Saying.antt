@@ -19,7 +19,7 @@ uptoOf (There c) = c .upto
 abbrev pub Answers : Endpoint → ℕ → Option Packet → Type 0
 Answers x tag r = (o : Who) (w : World) → Stands x (end o w) → After x (sent r) o w (step (cfg x) (Sends o tag (uptoOf (byTag tag (end o w .conns))) (cfg x .size)) w)
 
--- A text from a place on with at most k bytes, where nothing before that place is unconfirmed no more and a text may have so many; else nothing goes out.
+-- A text from a place on with at most k bytes, where that place is not confirmed yet and a text may have so many; else nothing goes out.
 pub record Says (x : Endpoint) (tag place k : ℕ) (r : Option Packet) : Type 0 where
   pub may : (o : Who) (w : World) → Stands x (end o w) → uptoOf (byTag tag (end o w .conns)) ≤ place → k ≤ cfg x .size → After x (sent r) o w (step (cfg x) (Sends o tag place k) w)
   pub other : (e : End) → Stands x e → ((uptoOf (byTag tag (e .conns)) ≤ place) × (k ≤ cfg x .size) → ⊥) → r ≡ None

@@ -1,4 +1,4 @@
--- What is said stays below the room that is seen; and what else is true of room, of the one other, of the end. Assumes nothing.
+-- What is said stays below the room that is seen; only a due text may pass it, by one byte. Assumes nothing.
 use mathlib.Core.Path.{_≡_, refl, sym, ap, subst, _∙_}
 use mathlib.Core.Bool.{Bool, true, false, cond, _&&_, _||_, not}
 use mathlib.Core.Logic.{_⊎_, inl, inr, ⊎-elim}
@@ -13,11 +13,8 @@ use Rattle.hold.specs.Packet.{Settings, Packet, Kind, Ask, Yes, Text, Bye, bar
 use Rattle.hold.specs.Conn.{Conn, Phase, Asked, Half, Open, Gone, Last, NotSaid, new, inPhase, openWith, hears, says, due, ends}
 use Rattle.hold.specs.World.{Who, L, R, End, World, Ev, Listens, Opens, Due, Gives, Closes, Takes, Sends, Breaks, Forgets, Hears, end, other, comingTo, put, changed, added, isIn, isOpen, isAsked, byTag, byTheirs, Found, NotThere, There, saysIf, dueBy, dueIf, byeIf, onAsk, onYes, onText, onBye, onKind, hearsNth, step, world}
 use Rattle.hold.specs.Promise.{At}
-use Rattle.hold.specs.Extras.{Below, SaysBelow, EdgeTrue, Unique, ToldExactly}
-use Rattle.hold.proofs.Table.{one-tag, byTag-mem}
-use Rattle.hold.proofs.Truth.{FactsOf, Tie, TiedOf}
-use Rattle.hold.proofs.Inv.{inv, apart-at}
-use Rattle.hold.proofs.Parts.{edge-true, tie-of}
+use Rattle.hold.specs.Extras.{Below, SaysBelow}
+use Rattle.hold.proofs.Table.{byTag-mem}
 
 take-short : (n : ℕ) (xs : List ℕ) → length (take n xs) ≤ n
 take-short zero xs = omega arith
@@ -149,28 +146,3 @@ module _ (cfg : Settings) (w : World) (o : Who) (p : Packet) (k : p .kind ≡ Te
 pub says-so : SaysBelow
 unfolding world
 says-so = (says-below, due-below, λ cfg es e o p m k. step-new cfg (world cfg es) o p k e m)
-
-pub edges : EdgeTrue
-edges = edge-true
-
-pub unique : Unique
-unique cfg es o c d m n h k q = go (tie-of cfg es o c m h) (tie-of cfg es o d n k)
-  where
-    go : TiedOf cfg c (end (other o) (world cfg es) .conns) → TiedOf cfg d (end (other o) (world cfg es) .conns) → c ≡ d
-    go s t = one-tag _ c d (apart-at _ (inv cfg es .tagged) o) m n
-        (sym (s .one .1) ∙ ap (λ z. z .theirs) (one-tag _ (s .partner) (t .partner) (apart-at _ (inv cfg es .tagged) (other o)) (s .there) (t .there) (sym (s .one .0) ∙ q ∙ t .one .0)) ∙ t .one .1)
-
-facts-told : (cfg : Settings) (c d : Conn) → FactsOf cfg c d → c .ended ≡ ends (c .end) (length (c .got))
-facts-told cfg c d f = go (c .end) refl
-  where
-    go : (e : Last) → c .end ≡ e → c .ended ≡ ends e (length (c .got))
-    go (Last.At q) e = f .told q e
-    go NotSaid e = ⊎-elim (λ h. let (q, k) = f .end-heard h in absurd (let z : _≡_ {A = ℕ} 0 1 = cc in omega arith)) (λ h. h) (cases-bool (c .ended))
-
-told-by : (cfg : Settings) (c : Conn) (ds : List Conn) → Tie cfg c ds → c .ended ≡ ends (c .end) (length (c .got))
-told-by cfg c ds (inl f) = let e = f .is-nothing in ap (λ h. h .ended) e ∙ sym (ap (λ h. ends (h .end) (length (h .got))) e)
-told-by cfg c ds (inr (_, inl t)) = facts-told cfg c (t .caller) (t .facts)
-told-by cfg c ds (inr (_, inr t)) = facts-told cfg c (t .partner) (t .facts)
-
-pub told-exactly : ToldExactly
-told-exactly cfg es o c m = told-by cfg c _ (inv cfg es .linked o c m .tie)

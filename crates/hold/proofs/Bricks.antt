@@ -12,6 +12,7 @@ use Rattle.std.proofs.shelf.Ways.{tells}
 use Rattle.std.proofs.shelf.Tests.{cases-bool, and-parts, eqb-true, ltb-true, ltb-false, not-true, cond-both, cond-true, cond-false}
 use Rattle.hold.specs.Packet.{Piece, has, byteAt}
 use Rattle.hold.specs.Conn.{keep, turn, from}
+use Rattle.hold.specs.Rules.{AtPlace, Front}
 
 pub T→true : (b : Bool) → T b → b ≡ true
 T→true true t = refl
@@ -23,34 +24,28 @@ true→T b e = rw e tt
 pub false-true : {X : Type 0} (b : Bool) → b ≡ false → b ≡ true → X
 false-true b p q = let z : _≡_ {A = Bool} true false = cc in absurd (let w : _≡_ {A = ℕ} 0 1 = cc in omega arith)
 
--- byte b stands at place i
-abbrev pub Stands : ℕ → ℕ → List ℕ → Type 0
-Stands i b [] = ⊥
-Stands zero b (x ∷ xs) = x ≡ b
-Stands (suc i) b (x ∷ xs) = Stands i b xs
-
-pub stands-spec : (i b : ℕ) (xs : List ℕ) → Stands i b xs → take 1 (drop i xs) ≡ b ∷ []
+pub stands-spec : (i b : ℕ) (xs : List ℕ) → AtPlace i b xs → take 1 (drop i xs) ≡ b ∷ []
 stands-spec i b [] h = absurd h
 stands-spec zero b (x ∷ xs) h = ap (λ z. z ∷ []) h
 stands-spec (suc i) b (x ∷ xs) h = stands-spec i b xs h
 
-pub stands-more : (i b : ℕ) (xs ys : List ℕ) → Stands i b xs → Stands i b (xs ++ ys)
+pub stands-more : (i b : ℕ) (xs ys : List ℕ) → AtPlace i b xs → AtPlace i b (xs ++ ys)
 stands-more i b [] ys h = absurd h
 stands-more zero b (x ∷ xs) ys h = h
 stands-more (suc i) b (x ∷ xs) ys h = stands-more i b xs ys h
 
-pub stands-take : (i b k : ℕ) (xs : List ℕ) → Stands i b (take k xs) → Stands i b xs
+pub stands-take : (i b k : ℕ) (xs : List ℕ) → AtPlace i b (take k xs) → AtPlace i b xs
 stands-take i b zero xs h = absurd h
 stands-take i b (suc k) [] h = absurd h
 stands-take zero b (suc k) (x ∷ xs) h = h
 stands-take (suc i) b (suc k) (x ∷ xs) h = stands-take i b k xs h
 
-pub stands-drop : (p i b : ℕ) (xs : List ℕ) → Stands i b (drop p xs) → Stands (p + i) b xs
+pub stands-drop : (p i b : ℕ) (xs : List ℕ) → AtPlace i b (drop p xs) → AtPlace (p + i) b xs
 stands-drop zero i b xs h = rw zero-add h
 stands-drop (suc p) i b [] h = absurd h
 stands-drop (suc p) i b (x ∷ xs) h = rw suc-add (stands-drop p i b xs h)
 
-pub next-stands : (a rest : List ℕ) (b : ℕ) → Stands (length a) b (a ++ rest) → (r : List ℕ) × (rest ≡ b ∷ r)
+pub next-stands : (a rest : List ℕ) (b : ℕ) → AtPlace (length a) b (a ++ rest) → (r : List ℕ) × (rest ≡ b ∷ r)
 next-stands [] [] b h = absurd h
 next-stands [] (x ∷ r) b h = (r, ap (λ z. z ∷ r) h)
 next-stands (x ∷ a) rest b h = next-stands a rest b h
@@ -77,7 +72,7 @@ mem-from p (y ∷ ys) x m = go (ltb (y .place) p) refl m (λ k. mem-from p ys x 
 
 -- a piece that is kept was there, or comes from the text, in its place, in the room
 abbrev pub Came : ℕ → ℕ → ℕ → List ℕ → Piece → Type 0
-Came next edge p bs x = (i : ℕ) × Stands i (x .byte) bs × (x .place ≡ p + i) × (next ≤ x .place) × (x .place < edge)
+Came next edge p bs x = (i : ℕ) × AtPlace i (x .byte) bs × (x .place ≡ p + i) × (next ≤ x .place) × (x .place < edge)
 
 pub mem-keep : (next edge p : ℕ) (bs : List ℕ) (ks : List Piece) (x : Piece) → List·Memᴰ x (keep next edge p bs ks) → List·Memᴰ x ks ⊎ Came next edge p bs x
 unfolding keep
@@ -97,16 +92,13 @@ turn-below zero next bound ks all le = omega arith
 turn-below (suc n) next bound ks all le = let r = turn-below n (next + 1) bound ks all in let h = has-mem next ks in grind (arith, tells, all)
 
 -- a first part, made longer by what has its turn
-abbrev pub Front : List ℕ → List ℕ → Type 0
-Front a g = (rest : List ℕ) × (a ++ rest ≡ g)
-
-pub front-next : (a g : List ℕ) (b : ℕ) → Stands (length a) b g → Front a g → Front (a ++ (b ∷ [])) g
+pub front-next : (a g : List ℕ) (b : ℕ) → AtPlace (length a) b g → Front a g → Front (a ++ (b ∷ [])) g
 front-next a g b s (rest, e) = go (next-stands a rest b (rw e s))
   where
     go : (r : List ℕ) × (rest ≡ b ∷ r) → Front (a ++ (b ∷ [])) g
     go (r, k) = (r, append-assoc a (b ∷ []) r ∙ ap (λ z. a ++ z) (sym k) ∙ e)
 
-pub front-turn : (n : ℕ) (ks : List Piece) (a g : List ℕ) → ((x : Piece) → List·Memᴰ x ks → Stands (x .place) (x .byte) g) → Front a g → Front (a ++ turn n (length a) ks) g
+pub front-turn : (n : ℕ) (ks : List Piece) (a g : List ℕ) → ((x : Piece) → List·Memᴰ x ks → AtPlace (x .place) (x .byte) g) → Front a g → Front (a ++ turn n (length a) ks) g
 unfolding turn
 front-turn zero ks a g s f = rw append-nil f
 front-turn (suc n) ks a g s f = cond-both (has (length a) ks) (byteAt (length a) ks ∷ turn n (length a + 1) ks) [] (λ t. Front (a ++ t) g)

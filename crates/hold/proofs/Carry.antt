@@ -11,6 +11,7 @@ use Rattle.std.proofs.shelf.Ways.{tells}
 use Rattle.std.proofs.shelf.Tests.{cond-both, cond-true, and-from, eq-eqb, ltb-false}
 use Rattle.hold.specs.Packet.{Settings, Piece, has, larger, lower}
 use Rattle.hold.specs.Conn.{Conn, Open, Last, NotSaid, openWith, hears, due, dueText, keep, turn, said}
+use Rattle.hold.specs.Live.{Heard}
 use Rattle.hold.proofs.Hear.{said-stays}
 
 pub first-byte : (k p : ℕ) (g : List ℕ) → 1 ≤ k → p < length g → (x : ℕ) × (r : List ℕ) × (take k (drop p g) ≡ x ∷ r)
@@ -42,20 +43,6 @@ turn-one : (next : ℕ) (ks : List Piece) → has next ks ≡ true → 1 ≤ len
 unfolding turn has
 turn-one next [] h = grind arith
 turn-one next (k ∷ ks) h = grind arith
-
--- b hears the due text of a, and is then d
-pub record Heard (cfg : Settings) (a b d : Conn) : Type 0 where
-  pub mine : d .mine ≡ b .mine
-  pub theirs : d .theirs ≡ a .mine
-  pub phase : d .phase ≡ Open
-  pub opened : d .opened ≡ true
-  pub given : d .given ≡ b .given
-  pub closed : d .closed ≡ b .closed
-  pub upto : length (a .got) ≤ d .upto
-  pub longer : length (b .got) ≤ length (d .got)
-  pub brings : a .upto ≡ length (b .got) → length (b .got) < length (a .given) → length (b .got) < b .taken + cfg .room → length (b .got) < length (d .got)
-  pub ends-stay : (q : ℕ) → b .end ≡ Last.At q → d .end ≡ Last.At q
-  pub ends-come : a .closed ≡ true → a .all ≡ false → a .upto ≡ length (a .given) → (q : ℕ) × (d .end ≡ Last.At q)
 
 module _ (cfg : Settings) (a b : Conn) where
   ks : List Piece

@@ -13,10 +13,10 @@ use Rattle.hold.specs.Packet.{Settings, Packet, Kind, Ask, Yes, Text}
 use Rattle.hold.specs.Conn.{Conn, openWith, gives, heard}
 use Rattle.hold.specs.World.{isOpen, isAsked}
 use Rattle.hold.specs.Promise.{tags, apart}
-use Rattle.hold.proofs.Bricks.{Front, false-true}
+use Rattle.hold.specs.Rules.{Edit, Front, Told, advanceBy, closed-now, dropped, given-more, gone-now, handed, heard-by, isHalf, opened-by, taken-more, yielded}
+use Rattle.hold.proofs.Bricks.{false-true}
 use Rattle.hold.proofs.Table.{one-tag}
-use Rattle.hold.proofs.Moves.{Edit, given-more, closed-now, taken-more, gone-now, opened-by, heard-by, handed, dropped, yielded, advanceBy}
-use Rattle.hold.proofs.Truth.{Grows, front-same, TrueOf, Told, Has, Facts, FactsOf, gaveOf, Tied, fresh-facts, LocalOf, TiedOf, Tie, Caller, Linked, isHalf}
+use Rattle.hold.proofs.Truth.{Grows, front-same, TrueOf, Has, Facts, FactsOf, gaveOf, Tied, fresh-facts, LocalOf, TiedOf, Tie, Caller, Linked}
 use Rattle.hold.proofs.Hear.{hears-facts, handed-facts, dropped-facts, handed-local, heard-local}
 
 longer : (xs ys : List ℕ) → length xs ≤ length (xs ++ ys)

@@ -11,9 +11,9 @@ use lib.ListN.{length-append}
 use Rattle.std.proofs.shelf.Tests.{cond-both, or-cases, eqb-true, eq-eqb}
 use Rattle.hold.specs.Packet.{Settings, Packet, Piece}
 use Rattle.hold.specs.Conn.{Conn, Last, NotSaid, heard, from, turn, ends, said}
-use Rattle.hold.proofs.Bricks.{Stands, Front, front-turn, turn-below, mem-keep, mem-from, false-true}
-use Rattle.hold.proofs.Truth.{Told, Facts, FactsOf, gaveOf, LocalOf, front-length}
-use Rattle.hold.proofs.Moves.{advanceBy, withKept}
+use Rattle.hold.specs.Rules.{AtPlace, Front, Told, advanceBy, withKept}
+use Rattle.hold.proofs.Bricks.{front-turn, turn-below, mem-keep, mem-from, false-true}
+use Rattle.hold.proofs.Truth.{Facts, FactsOf, gaveOf, LocalOf, front-length}
 
 -- the place of the end: what was set stays, and what the text says is set if nothing was
 pub said-cases : (l : Bool) (p : ℕ) (e : Last) (q : ℕ) → said l p e ≡ Last.At q → (e ≡ Last.At q) ⊎ ((l ≡ true) × (q ≡ p))
@@ -29,7 +29,7 @@ ends-some (Last.At q) n h = (q, refl)
 ends-some NotSaid n h = false-true _ refl h
 
 -- n: so many bytes at most are handed on; ks, e: what is kept and where the end is, before
-module _ (cfg : Settings) (n : ℕ) (c d : Conn) (f : FactsOf cfg c d) (ks : List Piece) (ks-true : (x : Piece) → List·Memᴰ x ks → Stands (x .place) (x .byte) (d .given)) (e : Last)
+module _ (cfg : Settings) (n : ℕ) (c d : Conn) (f : FactsOf cfg c d) (ks : List Piece) (ks-true : (x : Piece) → List·Memᴰ x ks → AtPlace (x .place) (x .byte) (d .given)) (e : Last)
     (e-true : (q : ℕ) → e ≡ Last.At q → (q ≡ length (d .given)) × (d .closed ≡ true)) (e-stays : (q : ℕ) → c .end ≡ Last.At q → e ≡ Last.At q) where
   more : List ℕ
   more = c .got ++ turn n (length (c .got)) ks

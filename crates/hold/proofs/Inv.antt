@@ -1,21 +1,21 @@
 -- What is true of every world that can come to be. Assumes nothing.
 use mathlib.Core.Path.{_≡_, refl, sym, ap, subst}
-use mathlib.Core.Bool.{true, false, _&&_, not}
+use mathlib.Core.Bool.{true, false}
 use mathlib.Core.Logic.{_⊎_, inl, inr, ⊎-elim}
 use mathlib.Core.List.{List, [], _∷_, _++_, List·Memᴰ, List·Memᴰ·head, List·Memᴰ·tail, List·Memᴰ·cases-cons, List·Memᴰ·not-nil, List·Memᴰ·append-cases, List·Memᴰ·eq-of-singleton}
-use Prim.Native.Nat.{ℕ, _+_, _-_}
+use Prim.Native.Nat.{ℕ}
 use native.Mathlib.Omega.{arith}
 use lib.Dec.{eqb}
-use lib.ListN.{drop, take, length}
-use Rattle.std.proofs.shelf.Tests.{and-parts, or-cases, or-left, or-right, eqb-true}
-use Rattle.hold.specs.Packet.{Settings, Packet, Ask, Yes, Text, Bye, bare, larger, lower}
+use Rattle.std.proofs.shelf.Tests.{or-cases, or-left, or-right}
+use Rattle.hold.specs.Packet.{Settings, Packet, Ask, Yes, Text, Bye, bare}
 use Rattle.hold.specs.Conn.{Conn, Phase, Asked, Half, NotSaid, new}
 use Rattle.hold.specs.World.{Who, L, R, End, World, Ev, start, end, other, comingTo, put, added, change, isIn, isOpen, isAsked, world}
 use Rattle.hold.specs.Promise.{At, tags, apart}
-use Rattle.hold.proofs.Bricks.{stands-take, stands-drop, false-true, Front}
+use Rattle.hold.specs.Rules.{Front, Move, Said, answers, asking, asks, bye, edits, halfNew, isHalf, listens, stays, tells, truthful, yes-of}
+use Rattle.hold.proofs.Bricks.{false-true}
 use Rattle.hold.proofs.Table.{Into, Changed, into-change, mem-change, tags-change, apart-left, apart-right, apart-insert}
-use Rattle.hold.proofs.Moves.{Said, ask, yes-of, text, due-text, bye, truthful, asking, Move, stays, listens, tells, edits, asks, answers, words, halfNew, moves}
-use Rattle.hold.proofs.Truth.{Grows, grows-same, Told, TrueOf, true-grows, Linked, LocalOf, Local, Tie, Facts, Gave, gaveOf, front-front, linked-grows, Caller, Asker, isHalf, FreshOf, Fresh, nothing}
+use Rattle.hold.proofs.Moves.{moves}
+use Rattle.hold.proofs.Truth.{Grows, grows-same, TrueOf, true-grows, Linked, LocalOf, Local, Tie, Facts, Gave, gaveOf, front-front, linked-grows, Caller, Asker, FreshOf, Fresh, nothing}
 use Rattle.hold.proofs.Edits.{edit-grows, edit-linked}
 
 -- packets that are said are true
@@ -25,34 +25,8 @@ asked-not-half c e h = let r : isHalf (c .phase) ≡ false = grind arith in fals
 pub open-settled : (h : Phase) → isOpen h ≡ true → isAsked h ≡ false
 open-settled h e = grind arith
 
--- a text that is a part of what was given
-abbrev cut : Settings → ℕ → ℕ → Conn → Packet
-cut cfg p n c = record {
-  kind = Text;
-  from = c .mine;
-  to = c .theirs;
-  place = p;
-  text = take n (drop p (c .given));
-  last = c .closed && not (c .all) && eqb (p + length (take n (drop p (c .given)))) (length (c .given));
-  upto = length (c .got);
-  all = c .ended;
-  edge = c .taken + cfg .room;
-}
-
-cut-told : (cfg : Settings) (p n : ℕ) (c : Conn) → Told cfg (cut cfg p n c) c
-cut-told cfg p n c = record {
-  bytes = λ i b s. stands-drop p i b (c .given) (stands-take i b n (drop p (c .given)) s);
-  last = λ h. let (u, v) = and-parts _ _ h in (and-parts _ _ u .0, eqb-true _ _ v);
-  upto = omega arith;
-  all = λ h. h;
-  edge = omega arith;
-}
-
 said-true : (cfg : Settings) (cs : List Conn) (p : Packet) → Said cfg cs p → TrueOf cfg (p .kind) p cs
-said-true cfg cs p (ask c m a) = (c, m, refl, asked-not-half c a, (c .given, refl))
 said-true cfg cs p (yes-of c m a) = (c, m, (refl, refl, a))
-said-true cfg cs p (text c q k m a) = (c, m, (refl, refl, open-settled (c .phase) a), cut-told cfg q (lower k (c .sees - q)) c)
-said-true cfg cs p (due-text c m a) = (c, m, (refl, refl, open-settled (c .phase) a), cut-told cfg (c .upto) (larger 1 (lower (cfg .size) (c .sees - c .upto))) c)
 said-true cfg cs p (bye a b) = tt
 said-true cfg cs p (truthful c q m a k f t l) = subst (λ z. TrueOf cfg z p cs) (sym k) (c, m, (sym f, sym t, open-settled (c .phase) a), l)
 said-true cfg cs p (asking c q m a k f t) = subst (λ z. TrueOf cfg z p cs) (sym k) (c, m, sym f, asked-not-half c a, t)
@@ -175,16 +149,12 @@ move-inv cfg w v (edits o t f ps k g b) i = record {
     edited : {c : Conn} → Changed t f (end o w .conns) c → Linked cfg c (end (other o) w .conns)
     edited (d, m, q, h, e) = rw e (edit-linked cfg (comingTo o w) _ (coming cfg w (i .sent) o) (apart-at w (i .tagged) (other o)) d (f d) (g d m q h) (i .linked o d m))
 move-inv cfg w v (asks o t n z) i = added-inv cfg o w (new Asked t 0) (bare Ask t 0) n (λ h. false-true _ refl h) (λ h. false-true _ refl h) (inl fresh-new) (empty-local cfg) (new Asked t 0, List·Memᴰ·head refl, refl, (λ h. false-true _ refl h), ([], refl)) i
-move-inv cfg w v (answers o p t m k n z) i = added-inv cfg o w (new Half t (p .from)) (bare Yes t (p .from)) n (λ h. false-true _ refl h) (λ _. called) (inl fresh-new) (empty-local cfg) (new Half t (p .from), List·Memᴰ·head refl, (refl, refl, refl)) i
+move-inv cfg w v (answers o p t ws m k n z front fits) i = go (subst (λ z. TrueOf cfg z p (end (other o) w .conns)) k (coming cfg w (i .sent) o p m))
   where
-    called : (d : Conn) × List·Memᴰ d (end (other o) w .conns) × (d .mine ≡ p .from) × Asker d
-    called = let (d, n, q, h, _) = subst (λ z. TrueOf cfg z p (end (other o) w .conns)) k (coming cfg w (i .sent) o p m) in (d, n, q, h)
-move-inv cfg w v (words o p t m k n z fits) i = go (subst (λ z. TrueOf cfg z p (end (other o) w .conns)) k (coming cfg w (i .sent) o p m))
-  where
-    go : TrueOf cfg Ask p (end (other o) w .conns) → Inv cfg (put o (added (halfNew t (p .from) (p .text)) (end o w)) (bare Yes t (p .from) ∷ []) (t ∷ []) w)
-    go (d, j, q, h, f) = added-inv cfg o w (halfNew t (p .from) (p .text)) (bare Yes t (p .from)) n (λ h. false-true _ refl h) (λ _. (d, j, q, h))
-        (inr (refl, inl (record { not-opened = refl; caller = d; there = j; calls = q; facts = words-facts cfg (p .text) (gaveOf d) f })))
-        (record { taken-got = omega arith; got-room = omega (arith, fits); kept-room = λ x m. absurd (List·Memᴰ·not-nil m) }) (halfNew t (p .from) (p .text), List·Memᴰ·head refl, (refl, refl, refl)) i
+    go : TrueOf cfg Ask p (end (other o) w .conns) → Inv cfg (put o (added (halfNew t (p .from) ws) (end o w)) (bare Yes t (p .from) ∷ []) (t ∷ []) w)
+    go (d, j, q, h, f) = added-inv cfg o w (halfNew t (p .from) ws) (bare Yes t (p .from)) n (λ h. false-true _ refl h) (λ _. (d, j, q, h))
+        (inr (refl, inl (record { not-opened = refl; caller = d; there = j; calls = q; facts = words-facts cfg ws (gaveOf d) (front-front _ _ _ front f) })))
+        (record { taken-got = omega arith; got-room = omega (arith, fits); kept-room = λ x m. absurd (List·Memᴰ·not-nil m) }) (halfNew t (p .from) ws, List·Memᴰ·head refl, (refl, refl, refl)) i
 
 empty-tags : TagInv start
 unfolding tags isIn apart

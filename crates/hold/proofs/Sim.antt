@@ -27,11 +27,6 @@ unfolding viewsOf
 views-in [] c m = absurd (List·Memᴰ·not-nil m)
 views-in (x ∷ cs) c m = ⊎-elim (λ e. List·Memᴰ·head (ap viewOf e)) (λ n. List·Memᴰ·tail (views-in cs c n)) (List·Memᴰ·cases-cons m)
 
-pub drop-shorter : (p : ℕ) (xs : List ℕ) → length (drop p xs) ≤ length xs
-drop-shorter zero xs = omega arith
-drop-shorter (suc p) [] = omega arith
-drop-shorter (suc p) (x ∷ xs) = omega (arith, drop-shorter p xs)
-
 -- run: the base's run that a run looks like. moved: moves of the base can be made, one by one or by fewer
 pub record Sim (m : Transport) (cfg : Settings) : Type 0 where
   pub run : (es : List (m .Event)) → m .allowed es → List Ev
@@ -59,6 +54,9 @@ module _ (m : Transport) (cfg : Settings) (s : Sim m cfg) where
         rest = r .rest;
         first-part = r .first-part;
         end-of-all = r .end-of-all;
+        end-heard = r .end-heard;
+        end-true = r .end-true;
+        told = r .told;
         came = r .came;
         all-came = r .all-came;
       }
@@ -70,7 +68,7 @@ module _ (m : Transport) (cfg : Settings) (s : Sim m cfg) where
   sim-no-dead-end pos es a o u v m₁ m₂ lu lv one = go (sees-at es a o u m₁) (sees-at es a (other o) v m₂)
     where
       Goal : View → View → Type 0
-      Goal c d = (fs : List (m .Event)) × m .allowed (fs ++ es) × T (Rattle.hold.specs.Wide.onlyMoves m fs) × (length fs ≤ m .most (length (d .given))) ×
+      Goal c d = (fs : List (m .Event)) × m .allowed (fs ++ es) × T (Rattle.hold.specs.Wide.onlyMoves m fs) × (length fs ≤ m .most (length (drop (length (c .got)) (d .given)))) ×
           ((x : View) → Sees m o (fs ++ es) x → x .mine ≡ c .mine → x .stream ≡ c .stream → (x .got ≡ d .given) × (d .closed ≡ true → x .ended ≡ true))
 
       Got : List Ev → Conn → Conn → Type 0
@@ -88,9 +86,12 @@ module _ (m : Transport) (cfg : Settings) (s : Sim m cfg) where
         gs,
         b,
         t,
-        omega (arith, l, k, s .enough (length (v .given)), drop-shorter (length (c .got)) (d .given), ap (λ z. length (z .given)) f),
+        few,
         λ x n q _. seen (gs ++ es) b c d e f (subst (λ z. Got z c d) (sym r) g) x q (sees-at (gs ++ es) b o x n),
       )
+        where
+          few : length gs ≤ m .most (length (drop (length (u .got)) (v .given)))
+          few = rw (e, f) (omega (arith, l, k, s .enough (length (drop (length (c .got)) (d .given)))))
 
       go : (c : Conn) × At o (world cfg (s .run es a)) c × (u ≡ viewOf c) → (d : Conn) × At (other o) (world cfg (s .run es a)) d × (v ≡ viewOf d) → Goal u v
       go (c, j, e) (d, k, f) = let r = no-stand cfg pos (s .run es a) o c d j k (true→T _ (ap (λ z. z .lives) (sym e) ∙ lu)) (true→T _ (ap (λ z. z .lives) (sym f) ∙ lv))

@@ -10,16 +10,11 @@ use lib.ListN.{length}
 use mathlib.Core.List.{append-assoc, append-nil}
 use lib.ListN.{length-append}
 use Rattle.hold.specs.Packet.{Settings, Packet, Piece, Kind, Ask, Yes, Text, Bye}
-use Rattle.hold.specs.Conn.{Conn, Phase, Asked, Half, Open, Gone, Last, NotSaid, from}
+use Rattle.hold.specs.Conn.{Conn, Last, NotSaid, from}
 use Rattle.hold.specs.World.{isOpen, isAsked}
-use Rattle.hold.proofs.Bricks.{Stands, stands-more, Front}
+use Rattle.hold.specs.Rules.{AtPlace, Front, isHalf, Told}
+use Rattle.hold.proofs.Bricks.{stands-more}
 use Rattle.hold.proofs.Table.{Into}
-
-abbrev pub isHalf : Phase → Bool
-isHalf Asked = false
-isHalf Half = true
-isHalf Open = false
-isHalf Gone = false
 
 -- one that asked is half only if it gave way to a smaller tag
 abbrev pub Asker : Conn → Type 0
@@ -43,7 +38,7 @@ front-same xs = ([], append-nil xs)
 pub grows-same : (c : Conn) → Grows c c
 grows-same c = search (front-same, arith)
 
-pub stands-front : (i b : ℕ) (xs ys : List ℕ) → Front xs ys → Stands i b xs → Stands i b ys
+pub stands-front : (i b : ℕ) (xs ys : List ℕ) → Front xs ys → AtPlace i b xs → AtPlace i b ys
 stands-front i b xs ys (r, e) s = rw e at (stands-more i b xs r s)
 
 pub front-front : (xs ys zs : List ℕ) → Front xs ys → Front ys zs → Front xs zs
@@ -51,14 +46,6 @@ front-front xs ys zs (r, e) (s, f) = (r ++ s, sym (append-assoc xs r s) ∙ ap (
 
 pub front-length : (xs ys : List ℕ) → Front xs ys → length xs ≤ length ys
 front-length xs ys (r, e) = omega (arith, length-append xs r, ap length e)
-
--- what a text says of its sender
-pub record Told (cfg : Settings) (p : Packet) (d : Conn) : Type 0 where
-  pub bytes : (i b : ℕ) → Stands i b (p .text) → Stands (p .place + i) b (d .given)
-  pub last : p .last ≡ true → (d .closed ≡ true) × (p .place + length (p .text) ≡ length (d .given))
-  pub upto : p .upto ≤ length (d .got)
-  pub all : p .all ≡ true → d .ended ≡ true
-  pub edge : p .edge ≤ d .taken + cfg .room
 
 pub told-grows : (cfg : Settings) (p : Packet) (c d : Conn) → Grows c d → Told cfg p c → Told cfg p d
 told-grows cfg p c d g t = record {
@@ -115,7 +102,7 @@ abbrev pub nothing : Has
 nothing = record { got = []; kept = []; end = NotSaid; ended = false; upto = 0; all = false; sees = 0 }
 
 pub record Facts (cfg : Settings) (h : Has) (g : Gave) : Type 0 where
-  pub kept-true : (x : Piece) → List·Memᴰ x (h .kept) → Stands (x .place) (x .byte) (g .given)
+  pub kept-true : (x : Piece) → List·Memᴰ x (h .kept) → AtPlace (x .place) (x .byte) (g .given)
   pub front : Front (h .got) (g .given)
   pub end-true : (q : ℕ) → h .end ≡ Last.At q → (q ≡ length (g .given)) × (g .closed ≡ true)
   pub end-heard : h .ended ≡ true → (q : ℕ) × (h .end ≡ Last.At q)

@@ -1,5 +1,5 @@
 ghost use lib.ListN.{length, take, drop};
-ghost use mathlib.Core.List.{List, [], _∷_, _++_};
+ghost use mathlib.Core.List.{List, [], _++_};
 ghost use mathlib.Core.Path.{_≡_};
 ghost use Prim.Native.Nat.{ℕ, _+_, _-_, _<_, _≤_, min};
 ghost use Rattle.hold.specs.Packet.{Piece};
