@@ -1,0 +1,49 @@
+-- Bytes as one word: a plain byte stands for itself, any other for `%` and two hex digits.
+use mathlib.Core.Path.{_≡_}
+use mathlib.Core.Bool.{Bool, cond, _&&_, not}
+use mathlib.Core.List.{List, [], _∷_, _++_}
+use Prim.Native.Nat.{ℕ, zero, suc, _+_, _-_, _*_, _/_, _%_}
+use lib.Dec.{eqb, leb, ltb}
+use Rattle.std.specs.declared.result.Result.{Result}
+use Rattle.std.specs.declared.result.Result.the-variants.{Ok, Err}
+use Rattle.text.specs.Fronts.{Read, isDigit}
+
+-- most bytes that one word of data stands for
+abbrev pub most : ℕ
+most = 1024
+
+abbrev pub isPlain : ℕ → Bool
+isPlain b = ltb 32 b && (ltb b 127 && not (eqb b 37))
+
+abbrev pub hexOf : ℕ → ℕ
+hexOf d = cond (ltb d 10) (48 + d) (55 + d)
+
+abbrev pub written : ℕ → List ℕ
+written b = cond (isPlain b) (b ∷ []) (37 ∷ hexOf (b / 16) ∷ hexOf (b % 16) ∷ [])
+
+unfoldable pub encode : List ℕ → List ℕ
+encode [] = []
+encode (b ∷ bs) = written b ++ encode bs
+
+-- what is read next, behind what is read first
+abbrev pub andThen : {A B : Type 0} → Read A → (A → List ℕ → Read B) → Read B
+andThen (Ok x) f = f (x .0) (x .1)
+andThen (Err r) f = Err r
+
+abbrev pub nibble : List ℕ → Read ℕ
+nibble [] = Err []
+nibble (b ∷ bs) = cond (isDigit b) (Ok (b - 48, bs)) (cond (leb 65 b && leb b 70) (Ok (b - 55, bs)) (Err (b ∷ bs)))
+
+-- behind a `%`; bytes with a first digit from 3 to 6 are plain
+abbrev pub escape : List ℕ → Read ℕ
+escape bs = andThen (nibble bs) (λ high rest. cond (ltb 2 high && ltb high 7) (Err bs) (andThen (nibble rest) (λ low behind. cond (isPlain (16 * high + low)) (Err rest) (Ok (16 * high + low, behind)))))
+
+-- one byte of data
+abbrev pub octet : List ℕ → Read ℕ
+octet [] = Err []
+octet (b ∷ bs) = cond (eqb b 37) (escape bs) (cond (isPlain b) (Ok (b, bs)) (Err (b ∷ bs)))
+
+-- the bytes at the front, at most n of them, and what stands behind
+unfoldable pub run : ℕ → List ℕ → List ℕ × List ℕ
+run zero bs = ([], bs)
+run (suc n) bs = elim (octet bs) [ Ok x ↦ (x .0 ∷ run n (x .1) .0, run n (x .1) .1) | Err r ↦ ([], bs) ]

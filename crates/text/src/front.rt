@@ -1,0 +1,58 @@
+ghost use mathlib.Core.Path.{_≡_};
+ghost use Prim.Native.Nat.{_≤_, _<_};
+ghost use Rattle.std.specs.Vec.{made};
+ghost use Rattle.text.specs.Fronts.{strip, number, digits, isDigit, left, seen};
+
+/// What stands behind `word` at the front of `line`; else the part of `line` from the first byte that differs.
+pub fn strip<'a>(line: &'a [u8], word: &[u8]) -> Result<&'a [u8], &'a [u8]>
+    ensures { λ r. ⌜ left r ≡ strip (now (word .entry)) (now (line .entry)) ⌝ }
+{
+    for i in 0..word.len() {
+        if i >= line.len() || line[i] != word[i] {
+            return Err(&line[i..]);
+        }
+    }
+    Ok(&line[word.len()..])
+}
+
+pub fn is_digit(byte: u8) -> bool
+    ensures { λ r. ⌜ r ≡ isDigit byte ⌝ }
+{
+    byte >= b'0' && byte <= b'9'
+}
+
+/// The number of the digits at the front of `line`, and what stands behind them; else the part of `line` from the
+/// digit by which the number passes `most`.
+fn digits<'a>(line: &'a [u8], most: u64) -> Result<(u64, &'a [u8]), &'a [u8]>
+    ensures { λ r. ⌜ seen r ≡ digits most 0 (now (line .entry)) ⌝ }
+{
+    let mut n: u64 = 0;
+    for i in 0..line.len() {
+        if !is_digit(line[i]) {
+            return Ok((n, &line[i..]));
+        }
+        let next = 10 * n as u128 + (line[i] - b'0') as u128;
+        if next > most as u128 {
+            return Err(&line[i..]);
+        }
+        n = next as u64;
+    }
+    Ok((n, &line[line.len()..]))
+}
+
+/// A number without a leading zero at the front of `line`, at most `most`, and what stands behind it; else the part
+/// of `line` from the first byte at which no such number can go on.
+pub fn number<'a>(line: &'a [u8], most: u64) -> Result<(u64, &'a [u8]), &'a [u8]>
+    ensures { λ r. ⌜ seen r ≡ number most (now (line .entry)) ⌝ }
+{
+    let Some((byte, rest)) = line.split_first() else {
+        return Err(line);
+    };
+    if !is_digit(*byte) {
+        return Err(line);
+    }
+    if *byte == b'0' {
+        return Ok((0, rest));
+    }
+    digits(line, most)
+}
