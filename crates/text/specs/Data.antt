@@ -1,9 +1,10 @@
 -- Bytes as one word: a plain byte stands for itself, any other for `%` and two hex digits.
 use mathlib.Core.Path.{_≡_}
-use mathlib.Core.Bool.{Bool, cond, _&&_, not}
+use mathlib.Core.Bool.{Bool, true, false, cond, _&&_, not}
 use mathlib.Core.List.{List, [], _∷_, _++_}
 use Prim.Native.Nat.{ℕ, zero, suc, _+_, _-_, _*_, _/_, _%_}
 use lib.Dec.{eqb, leb, ltb}
+use lib.ListN.{length}
 use Rattle.std.specs.declared.result.Result.{Result}
 use Rattle.std.specs.declared.result.Result.the-variants.{Ok, Err}
 use Rattle.text.specs.Fronts.{Read, isDigit}
@@ -44,6 +45,22 @@ octet [] = Err []
 octet (b ∷ bs) = cond (eqb b 37) (escape bs) (cond (isPlain b) (Ok (b, bs)) (Err (b ∷ bs)))
 
 -- the bytes at the front, at most n of them, and what stands behind
+abbrev pub onward : Read ℕ → (List ℕ → List ℕ × List ℕ) → List ℕ → List ℕ × List ℕ
+onward (Ok x) go bs = (x .0 ∷ go (x .1) .0, go (x .1) .1)
+onward (Err r) go bs = ([], bs)
+
 unfoldable pub run : ℕ → List ℕ → List ℕ × List ℕ
 run zero bs = ([], bs)
-run (suc n) bs = elim (octet bs) [ Ok x ↦ (x .0 ∷ run n (x .1) .0, run n (x .1) .1) | Err r ↦ ([], bs) ]
+run (suc n) bs = onward (octet bs) (run n) bs
+
+abbrev pub isNil : List ℕ → Bool
+isNil [] = true
+isNil (b ∷ bs) = false
+
+abbrev pub faultOf : Read ℕ → List ℕ
+faultOf (Ok x) = x .1
+faultOf (Err r) = r
+
+-- a line that is one word of data, some bytes and at most so many
+abbrev pub whole : List ℕ → Result (List ℕ) (List ℕ)
+whole bs = cond (isNil (run most bs .1) && ltb 0 (length (run most bs .0))) (Ok bs) (Err (cond (eqb (length (run most bs .0)) most) (run most bs .1) (faultOf (octet (run most bs .1)))))

@@ -39,3 +39,8 @@ digits most n (b ∷ bs) = cond (isDigit b) (cond (leb (10 * n + (b - 48)) most)
 abbrev pub number : ℕ → List ℕ → Read ℕ
 number most [] = Err []
 number most (b ∷ bs) = cond (isDigit b) (cond (eqb b 48) (Ok (0, bs)) (digits most 0 (b ∷ bs))) (Err (b ∷ bs))
+
+-- the first line, without its line feed, and what stands behind that
+unfoldable pub splitLine : List ℕ → List ℕ × List ℕ
+splitLine [] = ([], [])
+splitLine (b ∷ bs) = cond (eqb b 10) ([], bs) (b ∷ splitLine bs .0, splitLine bs .1)

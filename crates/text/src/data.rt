@@ -4,8 +4,8 @@ ghost use Prim.Native.Nat.{_<_};
 ghost use lib.ListN.{length, drop};
 ghost use Rattle.std.specs.Of.Vec.{vec-items};
 ghost use Rattle.std.specs.Vec.{made};
-ghost use Rattle.text.specs.Fronts.{seen};
-ghost use Rattle.text.specs.Data.{isPlain, hexOf, nibble, escape, octet, run, most, encode};
+ghost use Rattle.text.specs.Fronts.{left, seen};
+ghost use Rattle.text.specs.Data.{isPlain, hexOf, nibble, escape, octet, run, most, whole, written, encode};
 use crate::front::is_digit;
 use std::alloc::AllocError;
 
@@ -67,4 +67,79 @@ pub fn octet<'a>(line: &'a [u8]) -> Result<(u8, &'a [u8]), &'a [u8]>
         return Err(line);
     }
     Ok((*byte, rest))
+}
+
+/// Writes the bytes that the front of `word` stands for, at most 1,024, to the front of `out`; says how many, and what
+/// of `word` stands behind them.
+pub fn unescape<'a>(word: &'a [u8], out: &mut [u8; MOST]) -> (usize, &'a [u8])
+    ensures count { λ r. ⌜ r .0 ≡ length (run most (now (word .entry)) .0) ⌝ }
+    ensures rest { λ r. ⌜ now (r .1) ≡ run most (now (word .entry)) .1 ⌝ }
+    ensures bytes { λ r. ⌜ now (out .exit) ≡ run most (now (word .entry)) .0 ++ drop (r .0) (now (out .entry)) ⌝ }
+{
+    let mut rest = word;
+    let mut n = 0;
+    while n < MOST {
+        let Ok((byte, behind)) = octet(rest) else {
+            break;
+        };
+        out[n] = byte;
+        n += 1;
+        rest = behind;
+    }
+    (n, rest)
+}
+
+/// Decodes a word of data into the front of `out`, and says how many bytes it was.
+pub fn decode(word: &[u8], out: &mut [u8; MOST]) -> usize
+    ensures count { λ r. ⌜ r ≡ length (run most (now (word .entry)) .0) ⌝ }
+    ensures bytes { λ r. ⌜ now (out .exit) ≡ run most (now (word .entry)) .0 ++ drop r (now (out .entry)) ⌝ }
+{
+    unescape(word, out).0
+}
+
+/// `line` where it is one word of data, of some bytes and at most 1,024; else the part of it from the first byte at
+/// which it can't go on.
+pub fn whole<'a>(line: &'a [u8]) -> Result<&'a [u8], &'a [u8]>
+    ensures { λ r. ⌜ left r ≡ whole (now (line .entry)) ⌝ }
+{
+    let mut bytes = [0; MOST];
+    let (count, rest) = unescape(line, &mut bytes);
+    if rest.is_empty() && count > 0 {
+        return Ok(line);
+    }
+    if count == MOST {
+        return Err(rest);
+    }
+    match octet(rest) {
+        Ok((_, behind)) => Err(behind),
+        Err(at) => Err(at),
+    }
+}
+
+fn hex(digit: u8) -> u8
+    requires { ⌜ digit < 16 ⌝ }
+    ensures { λ r. ⌜ r ≡ hexOf digit ⌝ }
+{
+    if digit < 10 { b'0' + digit } else { b'A' + (digit - 10) }
+}
+
+/// Appends one byte of data.
+fn push_octet(byte: u8, out: &mut Vec<u8>) -> Result<(), AllocError>
+    ensures { λ r. ⌜ made r (λ _. vec-items (now (out .exit)) ≡ vec-items (now (out .entry)) ++ written byte) ⌝ }
+{
+    if is_plain(byte) {
+        out.push(byte)?;
+        return Ok(());
+    }
+    out.extend_from_slice(&[b'%', hex(byte / 16), hex(byte % 16)])
+}
+
+/// Appends `bytes` as a word of data.
+pub fn encode(bytes: &[u8], out: &mut Vec<u8>) -> Result<(), AllocError>
+    ensures { λ r. ⌜ made r (λ _. vec-items (now (out .exit)) ≡ vec-items (now (out .entry)) ++ encode (now (bytes .entry))) ⌝ }
+{
+    for byte in bytes {
+        push_octet(*byte, out)?;
+    }
+    Ok(())
 }

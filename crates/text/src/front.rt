@@ -1,7 +1,12 @@
 ghost use mathlib.Core.Path.{_≡_};
+ghost use mathlib.Core.List.{_++_};
 ghost use Prim.Native.Nat.{_≤_, _<_};
+ghost use Rattle.std.specs.Of.Vec.{vec-items};
 ghost use Rattle.std.specs.Vec.{made};
-ghost use Rattle.text.specs.Fronts.{strip, number, digits, isDigit, left, seen};
+ghost use Rattle.std.specs.Written.{decimal};
+ghost use Rattle.text.specs.Fronts.{strip, number, digits, isDigit, splitLine, left, seen};
+use std::alloc::AllocError;
+use std::alloc::Global;
 
 /// What stands behind `word` at the front of `line`; else the part of `line` from the first byte that differs.
 pub fn strip<'a>(line: &'a [u8], word: &[u8]) -> Result<&'a [u8], &'a [u8]>
@@ -55,4 +60,25 @@ pub fn number<'a>(line: &'a [u8], most: u64) -> Result<(u64, &'a [u8]), &'a [u8]
         return Ok((0, rest));
     }
     digits(line, most)
+}
+
+/// Appends the digits of `number`.
+pub fn push_number(heap: Global, number: u64, out: &mut Vec<u8>) -> Result<(), AllocError>
+    ensures { λ r. ⌜ made r (λ _. vec-items (now (out .exit)) ≡ vec-items (now (out .entry)) ++ decimal number) ⌝ }
+{
+    let digits = format!(heap, "{number}")?;
+    out.extend_from_slice(digits.as_bytes())
+}
+
+/// The first line of a script, without its line feed, and what stands behind that.
+pub fn split_line<'a>(script: &'a [u8]) -> (&'a [u8], &'a [u8])
+    ensures line { λ r. ⌜ now (r .0) ≡ splitLine (now (script .entry)) .0 ⌝ }
+    ensures rest { λ r. ⌜ now (r .1) ≡ splitLine (now (script .entry)) .1 ⌝ }
+{
+    for i in 0..script.len() {
+        if script[i] == b'\n' {
+            return (&script[0..i], &script[i + 1..]);
+        }
+    }
+    (script, &script[script.len()..])
 }

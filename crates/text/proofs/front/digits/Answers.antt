@@ -1,5 +1,5 @@
 use mathlib.Core.Path.{sym, _∙_}
-use Rattle.text.proofs.Fronts.{digits-more, digits-stop, digits-past, digits-all}
+use Rattle.text.proofs.Steps.{digits-more, digits-stop, digits-past, digits-all}
 use Rattle.text.proofs.front.digits.Needs as need
 
 pub returns-then-not-is-digit : need.returns-then-not-is-digit

@@ -1,6 +1,6 @@
 use mathlib.Core.Path.{sym, _∙_}
 use native.Mathlib.Omega.{arith}
-use Rattle.text.proofs.Fronts.{strip-more, strip-differs, strip-ends, strip-all}
+use Rattle.text.proofs.Steps.{strip-more, strip-differs, strip-ends, strip-all}
 use Rattle.text.proofs.front.strip.Needs as need
 use Rattle.text.proofs.front.strip.Needs.{then-i-line·by·then-i-line, then-i-line·by·else-i-line·then-line-i}
 
