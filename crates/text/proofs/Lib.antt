@@ -1,2 +1,3 @@
 mod Steps
 mod Octets
+pub mod Rounds

@@ -6,6 +6,7 @@ ghost use Rattle.std.specs.Of.Vec.{vec-items};
 ghost use Rattle.std.specs.Vec.{made};
 ghost use Rattle.text.specs.Fronts.{left, seen};
 ghost use Rattle.text.specs.Data.{isPlain, hexOf, nibble, escape, octet, run, most, whole, written, encode};
+ghost use Rattle.text.specs.Back.{Decoded};
 use crate::front::is_digit;
 use std::alloc::AllocError;
 
@@ -93,6 +94,7 @@ pub fn unescape<'a>(word: &'a [u8], out: &mut [u8; MOST]) -> (usize, &'a [u8])
 pub fn decode(word: &[u8], out: &mut [u8; MOST]) -> usize
     ensures count { λ r. ⌜ r ≡ length (run most (now (word .entry)) .0) ⌝ }
     ensures bytes { λ r. ⌜ now (out .exit) ≡ run most (now (word .entry)) .0 ++ drop r (now (out .entry)) ⌝ }
+    ensures back { λ r. ⌜ Decoded (now (word .entry)) r (now (out .entry)) (now (out .exit)) ⌝ }
 {
     unescape(word, out).0
 }
