@@ -9,6 +9,7 @@ ghost use Rattle.text.specs.Data.{isPlain, hexOf, nibble, escape, octet, run, 
 ghost use Rattle.text.specs.Back.{Decoded};
 use crate::front::is_digit;
 use std::alloc::AllocError;
+use std::alloc::Global;
 
 /// Most bytes that one word of data stands for.
 pub const MOST: usize = 1024;
@@ -136,12 +137,13 @@ fn push_octet(byte: u8, out: &mut Vec<u8>) -> Result<(), AllocError>
     out.extend_from_slice(&[b'%', hex(byte / 16), hex(byte % 16)])
 }
 
-/// Appends `bytes` as a word of data.
-pub fn encode(bytes: &[u8], out: &mut Vec<u8>) -> Result<(), AllocError>
-    ensures { λ r. ⌜ made r (λ _. vec-items (now (out .exit)) ≡ vec-items (now (out .entry)) ++ encode (now (bytes .entry))) ⌝ }
+/// `bytes` as a word of data.
+pub fn encode(heap: Global, bytes: &[u8]) -> Result<Vec<u8>, AllocError>
+    ensures { λ r. ⌜ made r (λ word. vec-items word ≡ encode (now (bytes .entry))) ⌝ }
 {
+    let mut word = Vec::new(heap);
     for byte in bytes {
-        push_octet(*byte, out)?;
+        push_octet(*byte, &mut word)?;
     }
-    Ok(())
+    Ok(word)
 }

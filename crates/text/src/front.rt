@@ -1,8 +1,8 @@
 ghost use mathlib.Core.Path.{_≡_};
+ghost use mathlib.Core.Bool.{cond};
 ghost use mathlib.Core.List.{_++_};
-ghost use Prim.Native.Nat.{_≤_, _<_};
 ghost use Rattle.std.specs.Of.Vec.{vec-items};
-ghost use Rattle.std.specs.Vec.{made};
+ghost use Rattle.std.specs.Results.{isOk};
 ghost use Rattle.std.specs.Written.{decimal};
 ghost use Rattle.text.specs.Fronts.{strip, number, digits, isDigit, splitLine, left, seen};
 use std::alloc::AllocError;
@@ -62,9 +62,9 @@ pub fn number<'a>(line: &'a [u8], most: u64) -> Result<(u64, &'a [u8]), &'a [u8]
     digits(line, most)
 }
 
-/// Appends the digits of `number`.
+/// Appends the digits of `number`, or nothing.
 pub fn push_number(heap: Global, number: u64, out: &mut Vec<u8>) -> Result<(), AllocError>
-    ensures { λ r. ⌜ made r (λ _. vec-items (now (out .exit)) ≡ vec-items (now (out .entry)) ++ decimal number) ⌝ }
+    ensures { λ r. ⌜ vec-items (now (out .exit)) ≡ cond (isOk r) (vec-items (now (out .entry)) ++ decimal number) (vec-items (now (out .entry))) ⌝ }
 {
     let digits = format!(heap, "{number}")?;
     out.extend_from_slice(digits.as_bytes())

@@ -6,4 +6,4 @@ use Rattle.text.specs.Data.{encode}
 use Rattle.text.proofs.data.encode.Given as given
 
 abbrev pub Inv-loop-byte : given.InvT-loop-byte
-Inv-loop-byte l = vec-items (l .out) ++ encode (drop (l .byte-index) (l .bytes)) ≡ vec-items (l .entry .out) ++ encode (l .bytes)
+Inv-loop-byte l = vec-items (l .word) ++ encode (drop (l .byte-index) (l .bytes)) ≡ encode (l .bytes)
