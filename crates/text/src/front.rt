@@ -1,8 +1,10 @@
 ghost use mathlib.Core.Path.{_≡_};
 ghost use mathlib.Core.Bool.{cond};
 ghost use mathlib.Core.List.{_++_};
+ghost use Prim.Native.Nat.{_≤_};
 ghost use Rattle.std.specs.Of.Vec.{vec-items};
 ghost use Rattle.std.specs.Results.{isOk};
+ghost use Rattle.std.specs.Vec.{made};
 ghost use Rattle.std.specs.Written.{decimal};
 ghost use Rattle.text.specs.Fronts.{strip, number, digits, isDigit, splitLine, left, seen};
 use std::alloc::AllocError;
@@ -29,7 +31,8 @@ pub fn is_digit(byte: u8) -> bool
 /// The number of the digits at the front of `line`, and what stands behind them; else the part of `line` from the
 /// digit by which the number passes `most`.
 fn digits<'a>(line: &'a [u8], most: u64) -> Result<(u64, &'a [u8]), &'a [u8]>
-    ensures { λ r. ⌜ seen r ≡ digits most 0 (now (line .entry)) ⌝ }
+    ensures value { λ r. ⌜ seen r ≡ digits most 0 (now (line .entry)) ⌝ }
+    ensures small { λ r. ⌜ made r (λ x. x .0 ≤ most) ⌝ }
 {
     let mut n: u64 = 0;
     for i in 0..line.len() {
@@ -48,7 +51,8 @@ fn digits<'a>(line: &'a [u8], most: u64) -> Result<(u64, &'a [u8]), &'a [u8]>
 /// A number without a leading zero at the front of `line`, at most `most`, and what stands behind it; else the part
 /// of `line` from the first byte at which no such number can go on.
 pub fn number<'a>(line: &'a [u8], most: u64) -> Result<(u64, &'a [u8]), &'a [u8]>
-    ensures { λ r. ⌜ seen r ≡ number most (now (line .entry)) ⌝ }
+    ensures value { λ r. ⌜ seen r ≡ number most (now (line .entry)) ⌝ }
+    ensures small { λ r. ⌜ made r (λ x. x .0 ≤ most) ⌝ }
 {
     let Some((byte, rest)) = line.split_first() else {
         return Err(line);
