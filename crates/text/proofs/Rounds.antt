@@ -13,8 +13,8 @@ use Rattle.std.proofs.shelf.Decimals.{decimal-by-steps, decimal-digit}
 use Rattle.std.proofs.shelf.Lists.{append-assoc, getD-append-left, length-append}
 use Rattle.std.proofs.shelf.Tests.{cases-bool, cases-eq, cond-true, cond-false, le-leb, lt-leb, eq-eqb, ne-eqb}
 use Rattle.std.proofs.shelf.Ways.{tells}
-use Rattle.text.specs.Fronts.{Read, isDigit, digits, number}
-use Rattle.text.specs.Data.{isPlain, hexOf, written, encode, nibble, escape, octet, andThen, onward, run}
+use Rattle.text.specs.Fronts.{isDigit, digits, number}
+use Rattle.text.specs.Data.{isPlain, hexOf, written, encode, nibble, escape, octet, onward, run}
 use Rattle.text.specs.Back.{Bytes, Stops, NumbersBack, DataBack, Decoded}
 
 digit-more : (limit n d : ℕ) (rest : List ℕ) → d < 10 → 10 * n + d ≤ limit → digits limit n ((48 + d) ∷ rest) ≡ digits limit (10 * n + d) rest

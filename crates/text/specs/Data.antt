@@ -7,7 +7,7 @@ use lib.Dec.{eqb, leb, ltb}
 use lib.ListN.{length}
 use Rattle.std.specs.declared.result.Result.{Result}
 use Rattle.std.specs.declared.result.Result.the-variants.{Ok, Err}
-use Rattle.text.specs.Fronts.{Read, isDigit}
+use Rattle.text.specs.Fronts.{Read, andThen, isDigit}
 
 -- most bytes that one word of data stands for
 abbrev pub most : ℕ
@@ -25,11 +25,6 @@ written b = cond (isPlain b) (b ∷ []) (37 ∷ hexOf (b / 16) ∷ hexOf (b % 16
 unfoldable pub encode : List ℕ → List ℕ
 encode [] = []
 encode (b ∷ bs) = written b ++ encode bs
-
--- what is read next, behind what is read first
-abbrev pub andThen : {A B : Type 0} → Read A → (A → List ℕ → Read B) → Read B
-andThen (Ok x) f = f (x .0) (x .1)
-andThen (Err r) f = Err r
 
 abbrev pub nibble : List ℕ → Read ℕ
 nibble [] = Err []

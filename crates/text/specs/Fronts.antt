@@ -12,6 +12,11 @@ use Rattle.std.specs.declared.result.Result.the-variants.{Ok, Err}
 abbrev pub Read : Type 0 → Type 0
 Read A = Result (A × List ℕ) (List ℕ)
 
+-- what follows what was read
+abbrev pub andThen : {A B : Type 0} → Read A → (A → List ℕ → Result B (List ℕ)) → Result B (List ℕ)
+andThen (Ok x) f = f (x .0) (x .1)
+andThen (Err r) f = Err r
+
 -- the lists that slices hold
 abbrev pub left : Result (RefT (List ℕ)) (RefT (List ℕ)) → Result (List ℕ) (List ℕ)
 left (Ok r) = Ok (now r)
