@@ -1,4 +1,5 @@
 //! Lines of a script: calls of users, moments of ends, doings of the net.
+mod argument;
 pub mod line;
+pub mod read;
 pub mod word;
-pub mod argument;
