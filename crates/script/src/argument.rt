@@ -4,7 +4,7 @@ ghost use Prim.Native.Nat.{_≤_};
 ghost use Rattle.std.specs.Vec.{made};
 ghost use Rattle.text.specs.Fronts.{number, seen};
 ghost use Rattle.text.specs.Words.{choose};
-ghost use Rattle.script.specs.Words.{spelledSide, spelledSwitch, sides, switches};
+ghost use Rattle.script.specs.Words.{spelledSide, spelledSwitch, spelledVerb, sides, switches, verbs};
 ghost use Rattle.script.specs.Parse.{any, behindSpace, bytes, lineEnd, rest};
 ghost use Rattle.script.specs.Lines.{bytesSeen, ended, oneSeen, twoSeen};
 use crate::line::Side;
@@ -13,6 +13,9 @@ use crate::word::SWITCHES;
 use crate::word::SideWord;
 use crate::word::Switch;
 use crate::word::SwitchWord;
+use crate::word::VERBS;
+use crate::word::Verb;
+use crate::word::VerbWord;
 use text::data::whole;
 use text::front::number;
 use text::front::strip;
@@ -74,4 +77,10 @@ pub fn last_data<'a>(line: &'a [u8]) -> Result<&'a [u8], &'a [u8]>
         return Ok(line);
     };
     whole(strip(line, b" ")?)
+}
+
+pub fn next_verb<'a>(line: &'a [u8]) -> Result<(Verb, &'a [u8]), &'a [u8]>
+    ensures { λ r. ⌜ seen r ≡ behindSpace (now (line .entry)) (choose spelledVerb verbs) ⌝ }
+{
+    choose(&VERBS, strip(line, b" ")?)
 }
