@@ -1,3 +1,4 @@
 pub mod Words
 pub mod Parse
 pub mod Lines
+pub mod Show
