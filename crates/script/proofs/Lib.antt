@@ -1,2 +1,3 @@
 mod Printing
 mod Reading
+mod Rounds

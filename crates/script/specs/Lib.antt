@@ -2,3 +2,4 @@ pub mod Words
 pub mod Parse
 pub mod Lines
 pub mod Show
+pub mod Back

@@ -2,8 +2,10 @@ ghost use mathlib.Core.List.{[], _++_, _∷_, map};
 ghost use mathlib.Core.Path.{_≡_};
 ghost use Rattle.std.specs.Of.Vec.{vec-items};
 ghost use Rattle.std.specs.Vec.{made};
-ghost use Rattle.script.specs.Parse.{Begins, Brings, Counts, Names};
-ghost use Rattle.script.specs.Lines.{argumentsOf, atSide, verbOf};
+ghost use Rattle.std.specs.declared.result.Result.the-variants.{Ok};
+ghost use Rattle.script.specs.Parse.{Begins, Brings, Counts, Names, parse};
+ghost use Rattle.script.specs.Lines.{argumentsOf, atSide, verbOf, wordsOf};
+ghost use Rattle.script.specs.Back.{LineFits};
 ghost use Rattle.script.specs.Show.{counted, shown, shownBehind, shownWords};
 use crate::line::Call;
 use crate::line::Line;
@@ -138,9 +140,10 @@ fn push_line(heap: Global, line: Line, out: &mut Vec<u8>) -> Result<(), AllocErr
     }
 }
 
-/// The bytes of a line, without a line feed.
+/// The bytes of a line, without a line feed. They are read back as that line.
 pub fn print(heap: Global, line: Line) -> Result<Vec<u8>, AllocError>
-    ensures { λ r. ⌜ made r (λ bytes. vec-items bytes ≡ shown (line .entry)) ⌝ }
+    ensures bytes { λ r. ⌜ made r (λ bytes. vec-items bytes ≡ shown (line .entry)) ⌝ }
+    ensures back { λ r. ⌜ made r (λ bytes. LineFits (line .entry) → parse (vec-items bytes) ≡ Ok (wordsOf (line .entry))) ⌝ }
 {
     let mut bytes = Vec::new(heap);
     push_line(heap, line, &mut bytes)?;
