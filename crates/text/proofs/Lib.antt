@@ -1,0 +1,4 @@
+mod Steps
+mod Octets
+mod Choosing
+pub mod Rounds
