@@ -16,8 +16,7 @@ use Rattle.hold.specs.Promise.{Holds, tags, apart}
 use Rattle.hold.proofs.Bricks.{false-true}
 use Rattle.hold.proofs.Table.{mem-tags, one-tag}
 use Rattle.hold.proofs.Inv.{inv, apart-at}
-use Rattle.hold.proofs.Parts.{holds}
-use Rattle.hold.proofs.Below.{unique, told-exactly}
+use Rattle.hold.proofs.Parts.{holds, told-exactly, unique}
 use Rattle.ledger.specs.Sentence.{Account, One, Delivered, Paired, Whole, Sentence}
 use Rattle.ledger.specs.Tells.{isSaid, Tells, Tell}
 

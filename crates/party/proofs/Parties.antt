@@ -55,8 +55,11 @@ keeps-same x y cs s k = keeps-as x y cs (s .records) (s .given) (s .taken) k
 
 -- what goes out while nothing else happens
 pub says-acts : (p : Party) (out : List m.Packet) (next : Who → World → World) → ((o : Who) (w : World) → Stands (p .end) (end o w) → After (p .end) out o w (next o w)) → ((o : Who) (w : World) → end o (next o w) .conns ≡ end o w .conns) → Moves p p out next
-says-acts p out next f same = record { settings = refl; acted = λ o es h. let a = f o (world (cfg (p .end)) es) (h .stands) in
-    record { plays = record { stands = a .stands; keeps = subst (Keeps (p .book)) (sym (same o (world (cfg (p .end)) es))) (h .keeps) }; sends = a .sends; far = a .far; back = a .back } }
+says-acts p out next f same = record {
+  settings = refl;
+  acted = λ o es h. let a = f o (world (cfg (p .end)) es) (h .stands) in
+      record { plays = record { stands = a .stands; keeps = subst (Keeps (p .book)) (sym (same o (world (cfg (p .end)) es))) (h .keeps) }; sends = a .sends; far = a .far; back = a .back };
+}
 
 -- p became q: its end became x, what was done was written into the book b, and then a look was taken
 module _ (p q : Party) (x : Endpoint) (b : Book) (same : q .end ≡ x) (look : (e : End) → Stands x e → Looked (e .conns) b (q .book)) where

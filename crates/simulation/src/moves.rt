@@ -122,8 +122,22 @@ impl Pair {
         ensures { λ r. ⌜ Does (now (self .entry)) (now (self .exit)) (λ _. whenOk (λ k. Hears (whoOf side) k draws ∷ []) r) ⌝ }
     {
         match side {
-            Side::Left => halves::hear(&mut self.left, &self.to_left, &mut self.to_right, &mut self.drawn, i, draws),
-            Side::Right => halves::hear(&mut self.right, &self.to_right, &mut self.to_left, &mut self.drawn, i, draws),
+            Side::Left => halves::hear(
+                &mut self.left,
+                &self.to_left,
+                &mut self.to_right,
+                &mut self.drawn,
+                i,
+                draws,
+            ),
+            Side::Right => halves::hear(
+                &mut self.right,
+                &self.to_right,
+                &mut self.to_left,
+                &mut self.drawn,
+                i,
+                draws,
+            ),
         }
     }
 }
