@@ -118,10 +118,10 @@ module _ (p q : Party) (x : Endpoint) (b : Book) (same : q .end ≡ x) (look : (
         keeps : (o : Who) (es : List Ev) → Plays p (end o (world (cfg (p .end)) es)) → Looked (end o (step (cfg (p .end)) (Gives o t (take n bs)) (world (cfg (p .end)) es)) .conns) b (q .book) → Keeps (q .book) (end o (step (cfg (p .end)) (Gives o t (take n bs)) (world (cfg (p .end)) es)) .conns)
         keeps o es h l = go (byTag t (end o (world (cfg (p .end)) es) .conns)) refl (g .number _ (h .stands))
           where
-            free : (c : Conn) → call.giveNumber (There c) ≡ 0 → c .closed ≡ false
+            free : (c : Conn) → call.giveNumber bs (There c) ≡ 0 → c .closed ≡ false
             free c k = let g = cases-bool (c .closed) in grind (arith, tells)
 
-            go : (f : Found) → byTag t (end o (world (cfg (p .end)) es) .conns) ≡ f → call.giveNumber f ≡ 0 → Keeps (q .book) (end o (step (cfg (p .end)) (Gives o t (take n bs)) (world (cfg (p .end)) es)) .conns)
+            go : (f : Found) → byTag t (end o (world (cfg (p .end)) es) .conns) ≡ f → call.giveNumber bs f ≡ 0 → Keeps (q .book) (end o (step (cfg (p .end)) (Gives o t (take n bs)) (world (cfg (p .end)) es)) .conns)
             go NotThere e k = absurd (let z : _≡_ {A = ℕ} 5 0 = k in omega arith)
             go (There c) e k = keeps-gave o (world (cfg (p .end)) es) (sound (cfg (p .end)) es o) b₀ (kept _ (h .keeps)) t c (take n bs) b (q .book) e (free c k) (ap vec-items er) written (ap vec-items et) l
 
