@@ -8,7 +8,7 @@ ghost use Rattle.std.specs.Of.Vec.{vec-items};
 ghost use Rattle.hold.specs.World.{Breaks, Due, Hears, Opens, isIn};
 ghost use Rattle.packet.specs.Packets.{sent};
 ghost use Rattle.ledger.specs.Room.{RoomFor};
-ghost use Rattle.simulation.specs.Shows.{Half, answerOf, netOf, sendOf, whenOk};
+ghost use Rattle.simulation.specs.Shows.{Half, Placed, answerOf, netOf, sendOf, whenOk};
 use packet::packet::Packet;
 use party::Fault;
 use party::Party;
@@ -82,7 +82,8 @@ pub fn hear(
     i: usize,
     draws: u64,
 ) -> Result<usize, Fault>
-    ensures { λ r. ⌜ Half (now (party .entry)) (now (party .exit)) (now (inn .entry)) (vec-items (now (out .entry))) (vec-items (now (out .exit))) (vec-items (now (drawn .entry))) (vec-items (now (drawn .exit))) (λ o _. whenOk (λ k. Hears o k draws ∷ []) r) ⌝ }
+    ensures place { λ r. ⌜ Placed (now (inn .entry)) i r ⌝ }
+    ensures half { λ r. ⌜ Half (now (party .entry)) (now (party .exit)) (now (inn .entry)) (vec-items (now (out .entry))) (vec-items (now (out .exit))) (vec-items (now (drawn .entry))) (vec-items (now (drawn .exit))) (λ o _. whenOk (λ k. Hears o k draws ∷ []) r) ⌝ }
 {
     if i >= inn.len() {
         return Err(Fault::Unfit);
