@@ -37,8 +37,10 @@ tell-change t f h [] (c ∷ cs) r e g k = absurd r
 tell-change t f h (a ∷ bs) [] r e g k = absurd r
 tell-change t f h (a ∷ bs) (c ∷ cs) (s, r) e g k = cond-both (eqb (c .mine) t && not (gone (c .phase))) (f c ∷ cs) (c ∷ change t f cs) (Tell (h a ∷ map h bs))
     (λ q. let (u, v) = and-parts _ _ q in (g a c (List·Memᴰ·head refl) (eqb-true _ _ u) (not-true _ v) s, tell-same h bs cs r (λ b d m w. k b d (List·Memᴰ·tail m) (λ z. false-true _ new (ap (λ y. isIn y (tags cs)) (eqb-true _ _ u ∙ sym z) ∙ mem-tags cs d m)) w)))
-    (λ q. (k a c (List·Memᴰ·head refl) (λ z. ⊎-elim (λ y. y) (λ y. false-true _ q (and-from _ _ (eq-eqb _ _ z) (ap not y))) (cases-bool (gone (c .phase)))) s,
-      tell-change t f h bs cs r (and-parts _ _ e .1) (λ b d m. g b d (List·Memᴰ·tail m)) (λ b d m. k b d (List·Memᴰ·tail m))))
+    (λ q. (
+      k a c (List·Memᴰ·head refl) (λ z. ⊎-elim (λ y. y) (λ y. false-true _ q (and-from _ _ (eq-eqb _ _ z) (ap not y))) (cases-bool (gone (c .phase)))) s,
+      tell-change t f h bs cs r (and-parts _ _ e .1) (λ b d m. g b d (List·Memᴰ·tail m)) (λ b d m. k b d (List·Memᴰ·tail m)),
+    ))
   where
     new : isIn (c .mine) (tags cs) ≡ false
     new = not-true _ (and-parts _ _ e .0)
@@ -82,8 +84,10 @@ look-new cs h t u g n one opens bs r = look-same′
     all-open c m e = ⊎-elim (λ q. false-true _ n (ap (λ z. isOpen (z .phase)) (sym q) ∙ e)) (λ k. opens c k e) (List·Memᴰ·cases-cons m)
 
     look-same′ : Tell (looked (new h t u ∷ cs) (begun t ∷ bs)) (new h t u ∷ cs)
-    look-same′ = (tells-look (new h t u ∷ cs) one all-open (begun t) (new h t u) [] (List·Memᴰ·head refl) g refl refl refl refl n,
-      tell-same (λ a. seen (byTag (a .tag) (new h t u ∷ cs)) a) bs cs r (λ a c m s. tells-again (new h t u ∷ cs) one all-open a c (List·Memᴰ·tail m) s))
+    look-same′ = (
+      tells-look (new h t u ∷ cs) one all-open (begun t) (new h t u) [] (List·Memᴰ·head refl) g refl refl refl refl n,
+      tell-same (λ a. seen (byTag (a .tag) (new h t u ∷ cs)) a) bs cs r (λ a c m s. tells-again (new h t u ∷ cs) one all-open a c (List·Memᴰ·tail m) s),
+    )
 
 -- who is not the one that is changed stays
 mem-stays : (t : ℕ) (f : Conn → Conn) (cs : List Conn) (c : Conn) → (c .mine ≡ t → gone (c .phase) ≡ true) → List·Memᴰ c cs → List·Memᴰ c (change t f cs)

@@ -129,9 +129,11 @@ module _ (o : Who) (w : World) (s : Sound (end o w .conns) (w .drawn)) (bs : Lis
         at-front = byTag-front t (p .from) (end o w .conns)
 
         added-one : Heard (put o (added (new Half t (p .from)) (end o w)) (bare Yes t (p .from) ∷ []) (t ∷ []) w)
-        added-one = (subst (λ z. After o (put o (added (new Half t (p .from)) (end o w)) (bare Yes t (p .from) ∷ []) (t ∷ []) w) (withNew t z bs))
-            (sym (ap (λ e. byTag t (e .conns)) (end-put o (added (new Half t (p .from)) (end o w)) (bare Yes t (p .from) ∷ []) (t ∷ []) w) ∙ at-front)) (after-new Half t (p .from) (bare Yes t (p .from) ∷ []) refl refl f),
-          λ u h. ap (λ e. isIn u (tags (e .conns))) (end-put o (added (new Half t (p .from)) (end o w)) (bare Yes t (p .from) ∷ []) (t ∷ []) w) ∙ in-new u (new Half t (p .from)) (end o w .conns) h)
+        added-one = (
+          subst (λ z. After o (put o (added (new Half t (p .from)) (end o w)) (bare Yes t (p .from) ∷ []) (t ∷ []) w) (withNew t z bs))
+              (sym (ap (λ e. byTag t (e .conns)) (end-put o (added (new Half t (p .from)) (end o w)) (bare Yes t (p .from) ∷ []) (t ∷ []) w) ∙ at-front)) (after-new Half t (p .from) (bare Yes t (p .from) ∷ []) refl refl f),
+          λ u h. ap (λ e. isIn u (tags (e .conns))) (end-put o (added (new Half t (p .from)) (end o w)) (bare Yes t (p .from) ∷ []) (t ∷ []) w) ∙ in-new u (new Half t (p .from)) (end o w .conns) h,
+        )
 
     on-yes : (z : Found) → byTag (p .to) (end o w .conns) ≡ z → Heard (onYes o p z w)
     on-yes NotThere e = says-only (bare Bye (p .to) (p .from) ∷ [])
@@ -143,7 +145,7 @@ module _ (o : Who) (w : World) (s : Sound (end o w .conns) (w .drawn)) (bs : Lis
     on-text NotThere = says-only (bare Bye (p .to) (p .from) ∷ [])
     on-text (There c) = cond-both (not (isAsked (c .phase)) && eqb (c .theirs) (p .from)) (put o (changed (c .mine) (λ d. hears cfg p (openWith (p .from) d)) (end o w)) [] [] w) w Heard
         (λ _. changes (c .mine) (λ d. hears cfg p (openWith (p .from) d)) (λ _. refl) (after-turn (c .mine) (λ d. hears cfg p (openWith (p .from) d)) (λ _. refl)
-          (λ d m _ _. record { mine = refl; given = refl; more = turn (length (heard cfg p d .kept)) (length (d .got)) (heard cfg p d .kept); got = refl; taken = refl; lives = refl; opened = or-right (d .opened) true refl })))
+        (λ d m _ _. record { mine = refl; given = refl; more = turn (length (heard cfg p d .kept)) (length (d .got)) (heard cfg p d .kept); got = refl; taken = refl; lives = refl; opened = or-right (d .opened) true refl })))
         (λ _. nothing)
 
     on-bye : (z : Found) → Heard (onBye o p z w)

@@ -28,7 +28,7 @@ noted v r = record { tag = r .tag; peer = v .peer; opened = r .opened || v .open
 -- what is to be seen of a connection of the model
 abbrev pub viewOf : Found → Option View
 viewOf NotThere = None
-viewOf (There c) = Some (record { peer = c .theirs; settled = not (isAsked (c .phase)); opened = isOpen (c .phase); closed = c .closed; arrived = length (c .got); heard = isSaid (c .end); told = c .ended; upto = c .upto; all = c .all; owes = owes c })
+viewOf (There c) = Some (record { peer = c .theirs; settled = not (isAsked (c .phase)); opened = isOpen (c .phase); given = length (c .given); closed = c .closed; arrived = length (c .got); heard = isSaid (c .end); told = c .ended; upto = c .upto; all = c .all; owes = owes c })
 
 abbrev pub entries : ℕ → List ℕ → List Entry
 entries t bs = map (λ b. record { tag = t; byte = b }) bs

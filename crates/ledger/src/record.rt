@@ -10,6 +10,8 @@ pub struct View {
     pub settled: bool,
     /// It is open now.
     pub opened: bool,
+    /// So many bytes its user gave.
+    pub given: u64,
     pub closed: bool,
     /// So many bytes came in order.
     pub arrived: u64,

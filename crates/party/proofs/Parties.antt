@@ -55,8 +55,11 @@ keeps-same x y cs s k = keeps-as x y cs (s .records) (s .given) (s .taken) k
 
 -- what goes out while nothing else happens
 pub says-acts : (p : Party) (out : List m.Packet) (next : Who → World → World) → ((o : Who) (w : World) → Stands (p .end) (end o w) → After (p .end) out o w (next o w)) → ((o : Who) (w : World) → end o (next o w) .conns ≡ end o w .conns) → Moves p p out next
-says-acts p out next f same = record { settings = refl; acted = λ o es h. let a = f o (world (cfg (p .end)) es) (h .stands) in
-    record { plays = record { stands = a .stands; keeps = subst (Keeps (p .book)) (sym (same o (world (cfg (p .end)) es))) (h .keeps) }; sends = a .sends; far = a .far; back = a .back } }
+says-acts p out next f same = record {
+  settings = refl;
+  acted = λ o es h. let a = f o (world (cfg (p .end)) es) (h .stands) in
+      record { plays = record { stands = a .stands; keeps = subst (Keeps (p .book)) (sym (same o (world (cfg (p .end)) es))) (h .keeps) }; sends = a .sends; far = a .far; back = a .back };
+}
 
 -- p became q: its end became x, what was done was written into the book b, and then a look was taken
 module _ (p q : Party) (x : Endpoint) (b : Book) (same : q .end ≡ x) (look : (e : End) → Stands x e → Looked (e .conns) b (q .book)) where
@@ -115,10 +118,10 @@ module _ (p q : Party) (x : Endpoint) (b : Book) (same : q .end ≡ x) (look : (
         keeps : (o : Who) (es : List Ev) → Plays p (end o (world (cfg (p .end)) es)) → Looked (end o (step (cfg (p .end)) (Gives o t (take n bs)) (world (cfg (p .end)) es)) .conns) b (q .book) → Keeps (q .book) (end o (step (cfg (p .end)) (Gives o t (take n bs)) (world (cfg (p .end)) es)) .conns)
         keeps o es h l = go (byTag t (end o (world (cfg (p .end)) es) .conns)) refl (g .number _ (h .stands))
           where
-            free : (c : Conn) → call.giveNumber (There c) ≡ 0 → c .closed ≡ false
+            free : (c : Conn) → call.giveNumber bs (There c) ≡ 0 → c .closed ≡ false
             free c k = let g = cases-bool (c .closed) in grind (arith, tells)
 
-            go : (f : Found) → byTag t (end o (world (cfg (p .end)) es) .conns) ≡ f → call.giveNumber f ≡ 0 → Keeps (q .book) (end o (step (cfg (p .end)) (Gives o t (take n bs)) (world (cfg (p .end)) es)) .conns)
+            go : (f : Found) → byTag t (end o (world (cfg (p .end)) es) .conns) ≡ f → call.giveNumber bs f ≡ 0 → Keeps (q .book) (end o (step (cfg (p .end)) (Gives o t (take n bs)) (world (cfg (p .end)) es)) .conns)
             go NotThere e k = absurd (let z : _≡_ {A = ℕ} 5 0 = k in omega arith)
             go (There c) e k = keeps-gave o (world (cfg (p .end)) es) (sound (cfg (p .end)) es o) b₀ (kept _ (h .keeps)) t c (take n bs) b (q .book) e (free c k) (ap vec-items er) written (ap vec-items et) l
 

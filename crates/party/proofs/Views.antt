@@ -26,10 +26,10 @@ use Rattle.table.proofs.Housing.{Agree, is-there, not-there}
 use Rattle.table.proofs.Lodging.{by-tag}
 
 abbrev viewFrom : Connection → Bool → View
-viewFrom x b = record { peer = x .pairing .theirs; settled = not (isAsked (phaseOf (x .pairing .phase))); opened = isOpen (phaseOf (x .pairing .phase)); closed = x .stream .closed; arrived = x .stream .receiver .got; heard = isSaid (lastOf (x .stream .end)); told = x .stream .ended; upto = x .stream .sender .upto; all = x .stream .all; owes = b }
+viewFrom x b = record { peer = x .pairing .theirs; settled = not (isAsked (phaseOf (x .pairing .phase))); opened = isOpen (phaseOf (x .pairing .phase)); given = x .stream .sender .given; closed = x .stream .closed; arrived = x .stream .receiver .got; heard = isSaid (lastOf (x .stream .end)); told = x .stream .ended; upto = x .stream .sender .upto; all = x .stream .all; owes = b }
 
 pub view-is : (cfg : Settings) (x : Connection) (d : Conn) → Stand1 cfg x d → Some (viewFrom x (owes d)) ≡ viewOf (There d)
-view-is cfg x d s = let g = s .holds .got-all in let e = s .is in cc
+view-is cfg x d s = let g = s .holds .got-all in let h = s .waits .given-all in let e = s .is in cc
 
 -- by a search
 pub look-none : (cfg : Settings) (x : Table) (cs : List Conn) (t : ℕ) → Lodges cfg x cs → None ≡ finds (Tag t) x → None ≡ viewOf (byTag t cs)

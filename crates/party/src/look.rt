@@ -22,6 +22,7 @@ fn view(c: &Connection) -> View
         peer: c.pairing.theirs,
         settled: !c.pairing.is_asked(),
         opened: c.pairing.speaks(),
+        given: c.stream.sender.given,
         closed: c.stream.closed,
         arrived: c.stream.receiver.got,
         heard: is_said(c.stream.end),

@@ -17,7 +17,7 @@ use Rattle.endpoint.specs.Stands as E
 use Rattle.party.specs.Plays.{Acts, Gave, Plays, Stays, Tried}
 use Rattle.party.specs.declared.Fault.{Fault}
 use Rattle.party.specs.declared.Party.{Party}
-use Rattle.simulation.specs.Shows.{Does, Half, Next, Shows, netOf, partyOf, whenOk}
+use Rattle.simulation.specs.Shows.{Does, Half, Next, Placed, Shows, netOf, netTo, partyOf, whenOk}
 use Rattle.simulation.specs.declared.pair.Pair.{Pair}
 use Rattle.simulation.proofs.OneSide.{half-moves, put-drawn, stepped}
 
@@ -94,3 +94,10 @@ module _ (p q : Pair) (fs : Party → Who → World → List Ev) where
 pub new-shows : (p : Pair) (s : Settings) → p .left .end .settings ≡ s → p .right .end .settings ≡ s → ((o : Who) → Plays (p .left) (end o start)) → ((o : Who) → Plays (p .right) (end o start)) → vec-items (p .«to_left») ≡ [] → vec-items (p .«to_right») ≡ [] → Shows (cfgOf s) p start
 unfolding isIn
 new-shows p s el er l r tl tr = record { cfg-left = ap cfgOf el; cfg-right = ap cfgOf er; left = l L; right = r R; toL = sym (ap netOf tl); toR = sym (ap netOf tr); drawn = λ t h. absurd (false≢true h) }
+
+-- the place of a packet that was brought
+pub placed-left : (p : Pair) (o : Who) (i : ℕ) (r : Result ℕ Fault) → o ≡ L → (xs : List Packet) → xs ≡ vec-items (p .«to_left») → Placed xs i r → Placed (netTo o p) i r
+placed-left p o i r e xs k h = subst (λ u. Placed (netTo u p) i r) (sym e) (subst (λ z. Placed z i r) k h)
+
+pub placed-right : (p : Pair) (o : Who) (i : ℕ) (r : Result ℕ Fault) → o ≡ R → (xs : List Packet) → xs ≡ vec-items (p .«to_right») → Placed xs i r → Placed (netTo o p) i r
+placed-right p o i r e xs k h = subst (λ u. Placed (netTo u p) i r) (sym e) (subst (λ z. Placed z i r) k h)

@@ -13,7 +13,8 @@ use Rattle.hold.specs.Packet as m
 use Rattle.hold.specs.World.{End, Ev, Hears, L, R, Who, World, comingTo, end, hearsNth, isIn, onKind, other, put, start, step, world}
 use Rattle.hold.proofs.Bricks.{false-true}
 use Rattle.hold.proofs.Inv.{inv, apart-at}
-use Rattle.hold.proofs.Moves.{Move, stays, listens, tells as says, edits, asks, answers, words, moves}
+use Rattle.hold.specs.Rules.{Move, stays, listens, tells as says, edits, asks, answers}
+use Rattle.hold.proofs.Moves.{moves}
 use Rattle.packet.specs.Packets.{packet}
 use Rattle.packet.specs.declared.packet.Packet.{Packet}
 use Rattle.endpoint.specs.Stands as E
@@ -38,8 +39,7 @@ zero-move cfg w v (listens o b) h = ap (isIn 0) (put-drawn o _ [] [] w) ∙ h
 zero-move cfg w v (says o ps g) h = ap (isIn 0) (put-drawn o _ ps [] w) ∙ h
 zero-move cfg w v (edits o t f ps a b c) h = ap (isIn 0) (put-drawn o _ ps [] w) ∙ h
 zero-move cfg w v (asks o t f z) h = zero-one o _ _ t w z h
-zero-move cfg w v (answers o p t n k f z) h = zero-one o _ _ t w z h
-zero-move cfg w v (words o p t n k f z l) h = zero-one o _ _ t w z h
+zero-move cfg w v (answers o p t ws n k f z i l) h = zero-one o _ _ t w z h
 
 pub zero-never : (cfg : m.Settings) (es : List Ev) → isIn 0 (world cfg es .drawn) ≡ false
 unfolding world isIn

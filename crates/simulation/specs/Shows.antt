@@ -2,8 +2,9 @@
 use mathlib.Core.Bool.{cond, true, _&&_}
 use mathlib.Core.List.{List, [], _∷_, _++_, map, reverse}
 use mathlib.Core.Path.{_≡_}
-use Prim.Native.Nat.{ℕ}
+use Prim.Native.Nat.{ℕ, _-_, _<_}
 use lib.Dec.{leb}
+use lib.ListN.{length}
 use Rattle.std.specs.Of.Vec.{vec-items}
 use Rattle.std.specs.declared.result.Result.{Result}
 use Rattle.std.specs.declared.result.Result.the-variants.{Ok, Err}
@@ -62,6 +63,15 @@ answers p o = answerOf (partyOf o p) o
 
 abbrev pub sends : Pair → Who → ℕ → ℕ → ℕ → World → List Ev
 sends p o = sendOf (partyOf o p) o
+
+abbrev pub netTo : Who → Pair → List Packet
+netTo L p = vec-items (p .«to_left»)
+netTo R p = vec-items (p .«to_right»)
+
+-- the place from the latest of the packet at a place
+abbrev pub Placed : List Packet → ℕ → Result ℕ Fault → Type 0
+Placed inn i (Ok k) = (i < length inn) × (k ≡ length inn - 1 - i)
+Placed inn i (Err f) = Unit {0}
 
 -- From p to q are these events, the latest first, after every run for which p stands.
 abbrev pub Does : Pair → Pair → (World → List Ev) → Type 0

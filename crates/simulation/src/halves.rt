@@ -8,7 +8,7 @@ ghost use Rattle.std.specs.Of.Vec.{vec-items};
 ghost use Rattle.hold.specs.World.{Breaks, Due, Hears, Opens, isIn};
 ghost use Rattle.packet.specs.Packets.{sent};
 ghost use Rattle.ledger.specs.Room.{RoomFor};
-ghost use Rattle.simulation.specs.Shows.{Half, answerOf, netOf, sendOf, whenOk};
+ghost use Rattle.simulation.specs.Shows.{Half, Placed, answerOf, netOf, sendOf, whenOk};
 use packet::packet::Packet;
 use party::Fault;
 use party::Party;
@@ -45,7 +45,12 @@ fn is_fresh(drawn: &[u64], tag: u64) -> bool
 }
 
 /// A new connection, with a tag that was never drawn before; its ask goes out.
-pub fn open(party: &mut Party, out: &mut Vec<Packet>, drawn: &mut Vec<u64>, tag: u64) -> Result<(), Fault>
+pub fn open(
+    party: &mut Party,
+    out: &mut Vec<Packet>,
+    drawn: &mut Vec<u64>,
+    tag: u64,
+) -> Result<(), Fault>
     ensures { λ r. ⌜ ((inn : List Packet) → Half (now (party .entry)) (now (party .exit)) inn (vec-items (now (out .entry))) (vec-items (now (out .exit))) (vec-items (now (drawn .entry))) (vec-items (now (drawn .exit))) (λ o _. whenOk (λ _. Opens o tag ∷ []) r)) ⌝ }
 {
     if !is_fresh(drawn, tag) {
@@ -69,8 +74,16 @@ pub fn open(party: &mut Party, out: &mut Vec<Packet>, drawn: &mut Vec<u64>, tag:
 
 /// The packet at a place of those that came is heard, with a tag that was never drawn before for the connection that it
 /// may open. The answer is its place from the latest.
-pub fn hear(party: &mut Party, inn: &[Packet], out: &mut Vec<Packet>, drawn: &mut Vec<u64>, i: usize, draws: u64) -> Result<usize, Fault>
-    ensures { λ r. ⌜ Half (now (party .entry)) (now (party .exit)) (now (inn .entry)) (vec-items (now (out .entry))) (vec-items (now (out .exit))) (vec-items (now (drawn .entry))) (vec-items (now (drawn .exit))) (λ o _. whenOk (λ k. Hears o k draws ∷ []) r) ⌝ }
+pub fn hear(
+    party: &mut Party,
+    inn: &[Packet],
+    out: &mut Vec<Packet>,
+    drawn: &mut Vec<u64>,
+    i: usize,
+    draws: u64,
+) -> Result<usize, Fault>
+    ensures place { λ r. ⌜ Placed (now (inn .entry)) i r ⌝ }
+    ensures half { λ r. ⌜ Half (now (party .entry)) (now (party .exit)) (now (inn .entry)) (vec-items (now (out .entry))) (vec-items (now (out .exit))) (vec-items (now (drawn .entry))) (vec-items (now (drawn .exit))) (λ o _. whenOk (λ k. Hears o k draws ∷ []) r) ⌝ }
 {
     if i >= inn.len() {
         return Err(Fault::Unfit);
@@ -117,7 +130,13 @@ pub fn answer(party: &Party, out: &mut Vec<Packet>, tag: u64) -> Result<(), Faul
 }
 
 /// A text goes out because it may.
-pub fn send(party: &Party, out: &mut Vec<Packet>, tag: u64, place: u64, most: u64) -> Result<(), Fault>
+pub fn send(
+    party: &Party,
+    out: &mut Vec<Packet>,
+    tag: u64,
+    place: u64,
+    most: u64,
+) -> Result<(), Fault>
     ensures { λ r. ⌜ ((inn : List Packet) (ts : List ℕ) → Half (now (party .entry)) (now (party .entry)) inn (vec-items (now (out .entry))) (vec-items (now (out .exit))) ts ts (λ o w. whenOk (λ _. sendOf (now (party .entry)) o tag place most w) r)) ⌝ }
 {
     let Ok(_) = out.reserve(1) else {

@@ -4,7 +4,7 @@ ghost use mathlib.Core.List.{[], _∷_};
 ghost use mathlib.Core.Path.{_≡_};
 ghost use Rattle.hold.specs.World.{Breaks, Closes, Due, Forgets, Gives, Hears, Listens, Opens, Takes, start};
 ghost use Rattle.packet.specs.Agreed.{cfgOf};
-ghost use Rattle.simulation.specs.Shows.{Does, Shows, answers, sends, whenOk, whoOf};
+ghost use Rattle.simulation.specs.Shows.{Does, Placed, Shows, answers, netTo, sends, whenOk, whoOf};
 use crate::halves;
 use crate::pair::Pair;
 use crate::pair::Side;
@@ -119,11 +119,26 @@ impl Pair {
     /// The net brings a packet, by its place among all that were ever sent that way; `draws` is the tag of the connection that
     /// it may open, or 0. The answer is its place from the latest.
     pub fn deliver(&mut self, side: Side, i: usize, draws: u64) -> Result<usize, Fault>
-        ensures { λ r. ⌜ Does (now (self .entry)) (now (self .exit)) (λ _. whenOk (λ k. Hears (whoOf side) k draws ∷ []) r) ⌝ }
+        ensures place { λ r. ⌜ Placed (netTo (whoOf side) (now (self .entry))) i r ⌝ }
+        ensures did { λ r. ⌜ Does (now (self .entry)) (now (self .exit)) (λ _. whenOk (λ k. Hears (whoOf side) k draws ∷ []) r) ⌝ }
     {
         match side {
-            Side::Left => halves::hear(&mut self.left, &self.to_left, &mut self.to_right, &mut self.drawn, i, draws),
-            Side::Right => halves::hear(&mut self.right, &self.to_right, &mut self.to_left, &mut self.drawn, i, draws),
+            Side::Left => halves::hear(
+                &mut self.left,
+                &self.to_left,
+                &mut self.to_right,
+                &mut self.drawn,
+                i,
+                draws,
+            ),
+            Side::Right => halves::hear(
+                &mut self.right,
+                &self.to_right,
+                &mut self.to_left,
+                &mut self.drawn,
+                i,
+                draws,
+            ),
         }
     }
 }

@@ -7,5 +7,6 @@ ghost-self c = (runs-on (c .args .self .now .pair) (c .obey .last .self) (events
 
 pub returns : need.returns
 returns c = record {
-    did = c .obey .ensures;
-    sentence = keeps-sentence (c .obey .last .self) (runs-on (c .args .self .now .pair) (c .obey .last .self) (events (c .args .self .now .pair) (c .args .command) (c .obey .result)) (c .obey .ensures) (c .args .self .now .runs)) }
+  did = c .obey .ensures;
+  sentence = keeps-sentence (c .obey .last .self) (runs-on (c .args .self .now .pair) (c .obey .last .self) (events (c .args .self .now .pair) (c .args .command) (c .obey .result)) (c .obey .ensures) (c .args .self .now .runs));
+}
