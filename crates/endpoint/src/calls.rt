@@ -3,7 +3,6 @@ ghost use lib.ListN.{length};
 ghost use mathlib.Core.Bool.{false, true, _&&_};
 ghost use mathlib.Core.List.{[]};
 ghost use mathlib.Core.Path.{_≡_};
-ghost use Prim.Native.Nat.{ℕ};
 ghost use Rattle.hold.specs.Code.{living};
 ghost use Rattle.hold.specs.Promise.{tags};
 ghost use Rattle.hold.specs.World.{End, Listens, Who, end, isIn, start};
