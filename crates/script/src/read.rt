@@ -1,6 +1,10 @@
 ghost use mathlib.Core.Path.{_≡_};
+ghost use Prim.Native.Nat.{_<_};
+ghost use lib.ListN.{length};
+ghost use Rattle.std.specs.Vec.{made};
 ghost use Rattle.script.specs.Parse.{Begins, after, behindHead, behindVerb, parse, rest, words};
-ghost use Rattle.script.specs.Lines.{beside, callSeen, lineRead, lineSeen};
+ghost use Rattle.script.specs.Lines.{beside, callSeen, lineRead, lineSeen, wordsOf};
+ghost use Rattle.script.specs.Show.{shown};
 use crate::argument::*;
 use crate::line::Call;
 use crate::line::Fault;
@@ -141,9 +145,10 @@ fn front<'a>(line: &'a [u8]) -> Result<Line<'a>, &'a [u8]>
     headed(head, behind)
 }
 
-/// The line that `line`, without its line feed, is; or its fault.
+/// The line that `line`, without its line feed, is; or its fault. A line that isn't blank is printed as it was read.
 pub fn read<'a>(line: &'a [u8]) -> Result<Line<'a>, Fault>
-    ensures { λ r. ⌜ lineRead r ≡ parse (now (line .entry)) ⌝ }
+    ensures words { λ r. ⌜ lineRead r ≡ parse (now (line .entry)) ⌝ }
+    ensures printed { λ r. ⌜ made r (λ l. 0 < length (wordsOf l) → shown l ≡ now (line .entry)) ⌝ }
 {
     match front(line) {
         Ok(known) => Ok(known),

@@ -70,7 +70,7 @@ digits-are limit m [] n r l e =
 digits-are limit m (b ∷ bs) n r l e = go (isDigit b) (leb (10 * m + (b - 48)) limit) refl refl e (λ k f. digits-are limit (10 * m + (b - 48)) bs n r k f)
   where
     go : (t u : Bool) → isDigit b ≡ t → leb (10 * m + (b - 48)) limit ≡ u → cond t (cond u (digits limit (10 * m + (b - 48)) bs) (Err (b ∷ bs))) (Ok (m, b ∷ bs)) ≡ Ok (n, r)
-      → (10 * m + (b - 48) ≤ limit → digits limit (10 * m + (b - 48)) bs ≡ Ok (n, r) → Spelt limit (10 * m + (b - 48)) n bs r) → Spelt limit m n (b ∷ bs) r
+        → (10 * m + (b - 48) ≤ limit → digits limit (10 * m + (b - 48)) bs ≡ Ok (n, r) → Spelt limit (10 * m + (b - 48)) n bs r) → Spelt limit m n (b ∷ bs) r
     go true true p q f k =
         let s = k (leb-true _ _ q) f in
         record { ds = b ∷ s .ds; front = ap (λ z. b ∷ z) (s .front); all = and-from _ _ p (s .all); value = s .value; small = s .small }
@@ -86,7 +86,7 @@ number-is limit [] n r l e = never [] (n, r) e
 number-is limit (b ∷ bs) n r l e = go (isDigit b) (eqb b 48) (leb (10 * 0 + (b - 48)) limit) refl refl refl e
   where
     go : (t u v : Bool) → isDigit b ≡ t → eqb b 48 ≡ u → leb (10 * 0 + (b - 48)) limit ≡ v → cond t (cond u (Ok (0, bs)) (cond t (cond v (digits limit (10 * 0 + (b - 48)) bs) (Err (b ∷ bs))) (Ok (0, b ∷ bs)))) (Err (b ∷ bs)) ≡ Ok (n, r)
-      → (b ∷ bs ≡ decimal n ++ r) × (n ≤ limit)
+        → (b ∷ bs ≡ decimal n ++ r) × (n ≤ limit)
     go true true v p q w f =
         let t = same (0, bs) (n, r) f in
         let x : n ≡ 0 = sym (ap (λ z. z .0) t) in
@@ -111,6 +111,7 @@ nibble-is (b ∷ bs) d r e = go (isDigit b) (leb 65 b && leb b 70) refl refl e
         let t = same (v, bs) (d, r) f in
         let x : v ≡ d = ap (λ z. z .0) t in
         (ap (λ z. z ∷ bs) (sym h) ∙ ap (λ z. hexOf (z .0) ∷ z .1) t, omega arith)
+
     go : (t u : Bool) → isDigit b ≡ t → (leb 65 b && leb b 70) ≡ u → cond {A = Read ℕ} t (Ok (b - 48, bs)) (cond u (Ok (b - 55, bs)) (Err (b ∷ bs))) ≡ Ok (d, r) → (b ∷ bs ≡ hexOf d ∷ r) × (d < 16)
     go true u p q f = found (b - 48) f (grind (arith, tells)) (omega (arith, leb-true b 57 (and-parts (leb 48 b) (leb b 57) p .1)))
     go false true p q f = found (b - 55) f (grind (arith, tells)) (omega (arith, leb-true b 70 (and-parts (leb 65 b) (leb b 70) q .1)))
@@ -132,12 +133,15 @@ escape-is bs v r e = high (nibble bs) refl e
         let x : 16 * h + l ≡ v = ap (λ z. z .0) t in
         let k : l < 16 = n .1 in
         (ap (λ z. 37 ∷ z) (b ∙ ap (λ z. hexOf h ∷ z) (n .0)) ∙ ap (λ z. z ++ s) (sym (escaped h l m k p)) ∙ ap (λ z. written (z .0) ++ z .1) t, omega arith)
+
     low : (h : ℕ) (q : List ℕ) → h < 16 → bs ≡ hexOf h ∷ q → (x : Read ℕ) → nibble q ≡ x → andThen {B = ℕ × List ℕ} x (λ l s. cond (isPlain (16 * h + l)) (Err q) (Ok (16 * h + l, s))) ≡ Ok (v, r) → (37 ∷ bs ≡ written v ++ r) × (v < 256)
     low h q m b (Ok x) p f = plain h (x .0) q (x .1) m b (nibble-is q (x .0) (x .1) p) (isPlain (16 * h + x .0)) refl f
     low h q m b (Err s) p f = never s (v, r) f
+
     two : (h : ℕ) (q : List ℕ) (t : Bool) → cond t (Err bs) (andThen {B = ℕ × List ℕ} (nibble q) (λ l s. cond (isPlain (16 * h + l)) (Err q) (Ok (16 * h + l, s)))) ≡ Ok (v, r) → h < 16 → bs ≡ hexOf h ∷ q → (37 ∷ bs ≡ written v ++ r) × (v < 256)
     two h q true g m b = never bs (v, r) g
     two h q false g m b = low h q m b (nibble q) refl g
+
     high : (x : Read ℕ) → nibble bs ≡ x → andThen {B = ℕ × List ℕ} x (λ h q. cond (ltb 2 h && ltb h 7) (Err bs) (andThen (nibble q) (λ l s. cond (isPlain (16 * h + l)) (Err q) (Ok (16 * h + l, s))))) ≡ Ok (v, r) → (37 ∷ bs ≡ written v ++ r) × (v < 256)
     high (Err s) p f = never s (v, r) f
     high (Ok x) p f = let n = nibble-is bs (x .0) (x .1) p in two (x .0) (x .1) (ltb 2 (x .0) && ltb (x .0) 7) f (n .1) (n .0)
