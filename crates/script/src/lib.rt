@@ -3,4 +3,4 @@ mod argument;
 pub mod line;
 pub mod print;
 pub mod read;
-pub mod word;
+mod word;

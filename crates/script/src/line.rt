@@ -28,17 +28,38 @@ pub enum Call<'a> {
 pub enum Line<'a> {
     /// An empty line or a comment.
     Blank,
-    Settings { room: u64, size: u64 },
+    Settings {
+        room: u64,
+        size: u64,
+    },
     /// At the end of that side, or at the only end.
-    Act { side: Option<Side>, call: Call<'a> },
+    Act {
+        side: Option<Side>,
+        call: Call<'a>,
+    },
     /// The net brings the `which`-th packet, from 1, ever sent to that side; `tag` is drawn for the connection that
     /// it may open.
-    Bring { to: Side, which: u64, tag: u64 },
+    Bring {
+        to: Side,
+        which: u64,
+        tag: u64,
+    },
     /// The same, with the `byte`-th byte, from 0, XORed with `mask`.
-    Damage { to: Side, which: u64, byte: u64, mask: u8, tag: u64 },
+    Damage {
+        to: Side,
+        which: u64,
+        byte: u64,
+        mask: u8,
+        tag: u64,
+    },
     /// All that the connection has still to get is brought over.
-    Drive { side: Side, tag: u64 },
-    Tick { count: u64 },
+    Drive {
+        side: Side,
+        tag: u64,
+    },
+    Tick {
+        count: u64,
+    },
 }
 
 /// The number of every fault of a line.

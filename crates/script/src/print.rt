@@ -93,7 +93,12 @@ fn push_arguments(heap: Global, call: Call, out: &mut Vec<u8>) -> Result<(), All
 }
 
 /// Appends a line of one end.
-fn push_act(heap: Global, side: Option<Side>, call: Call, out: &mut Vec<u8>) -> Result<(), AllocError>
+fn push_act(
+    heap: Global,
+    side: Option<Side>,
+    call: Call,
+    out: &mut Vec<u8>,
+) -> Result<(), AllocError>
     ensures { λ r. ⌜ made r (λ _. vec-items (now (out .exit)) ≡ vec-items (now (out .entry)) ++ shownWords (atSide side (call .entry))) ⌝ }
 {
     match side {
@@ -110,7 +115,13 @@ fn push_act(heap: Global, side: Option<Side>, call: Call, out: &mut Vec<u8>) -> 
 }
 
 /// Appends a line that begins with `head` and a side.
-fn push_sided(heap: Global, head: Head, side: Side, numbers: &[u64], out: &mut Vec<u8>) -> Result<(), AllocError>
+fn push_sided(
+    heap: Global,
+    head: Head,
+    side: Side,
+    numbers: &[u64],
+    out: &mut Vec<u8>,
+) -> Result<(), AllocError>
     ensures { λ r. ⌜ made r (λ _. vec-items (now (out .exit)) ≡ vec-items (now (out .entry)) ++ shownWords (Begins head ∷ Names side ∷ map Counts (now (numbers .entry)))) ⌝ }
 {
     out.extend_from_slice(head.spelling())?;
@@ -129,8 +140,20 @@ fn push_line(heap: Global, line: Line, out: &mut Vec<u8>) -> Result<(), AllocErr
         }
         Line::Act { side, call } => push_act(heap, side, call, out),
         Line::Bring { to, which, tag } => push_sided(heap, Head::Bring, to, &[which, tag], out),
-        Line::Damage { to, which, byte, mask, tag } => {
-            push_sided(heap, Head::Damage, to, &[which, byte, mask as u64, tag], out)
+        Line::Damage {
+            to,
+            which,
+            byte,
+            mask,
+            tag,
+        } => {
+            push_sided(
+                heap,
+                Head::Damage,
+                to,
+                &[which, byte, mask as u64, tag],
+                out,
+            )
         }
         Line::Drive { side, tag } => push_sided(heap, Head::Drive, side, &[tag], out),
         Line::Tick { count } => {

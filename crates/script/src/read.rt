@@ -1,6 +1,10 @@
 ghost use mathlib.Core.Path.{_≡_};
+ghost use Prim.Native.Nat.{_<_};
+ghost use lib.ListN.{length};
+ghost use Rattle.std.specs.Vec.{made};
 ghost use Rattle.script.specs.Parse.{Begins, after, behindHead, behindVerb, parse, rest, words};
-ghost use Rattle.script.specs.Lines.{beside, callSeen, lineRead, lineSeen};
+ghost use Rattle.script.specs.Lines.{beside, callSeen, lineRead, lineSeen, wordsOf};
+ghost use Rattle.script.specs.Show.{shown};
 use crate::argument::*;
 use crate::line::Call;
 use crate::line::Fault;
@@ -18,7 +22,9 @@ fn call<'a>(verb: Verb, line: &'a [u8]) -> Result<Call<'a>, &'a [u8]>
 {
     match verb {
         Verb::Listen => listen(line),
-        Verb::Open => Ok(Call::Open { tag: last_number(line)? }),
+        Verb::Open => Ok(Call::Open {
+            tag: last_number(line)?,
+        }),
         Verb::Accept => {
             end(line)?;
             Ok(Call::Accept)
@@ -32,17 +38,29 @@ fn call<'a>(verb: Verb, line: &'a [u8]) -> Result<Call<'a>, &'a [u8]>
             let (tag, count) = last_two(line)?;
             Ok(Call::Take { tag, count })
         }
-        Verb::Close => Ok(Call::Close { tag: last_number(line)? }),
-        Verb::Break => Ok(Call::Break { tag: last_number(line)? }),
-        Verb::State => Ok(Call::State { tag: last_number(line)? }),
-        Verb::Due => Ok(Call::Due { tag: last_number(line)? }),
-        Verb::Answer => Ok(Call::Answer { tag: last_number(line)? }),
+        Verb::Close => Ok(Call::Close {
+            tag: last_number(line)?,
+        }),
+        Verb::Break => Ok(Call::Break {
+            tag: last_number(line)?,
+        }),
+        Verb::State => Ok(Call::State {
+            tag: last_number(line)?,
+        }),
+        Verb::Due => Ok(Call::Due {
+            tag: last_number(line)?,
+        }),
+        Verb::Answer => Ok(Call::Answer {
+            tag: last_number(line)?,
+        }),
         Verb::Send => {
             let (tag, behind) = next_number(line, u64::MAX)?;
             let (place, count) = last_two(behind)?;
             Ok(Call::Send { tag, place, count })
         }
-        Verb::Forget => Ok(Call::Forget { tag: last_number(line)? }),
+        Verb::Forget => Ok(Call::Forget {
+            tag: last_number(line)?,
+        }),
     }
 }
 
@@ -66,7 +84,13 @@ fn damage<'a>(line: &'a [u8]) -> Result<Line<'a>, &'a [u8]>
     let (mask, behind) = next_number(behind, 255)?;
     let tag = last_number(behind)?;
     let mask = mask as u8;
-    Ok(Line::Damage { to, which, byte, mask, tag })
+    Ok(Line::Damage {
+        to,
+        which,
+        byte,
+        mask,
+        tag,
+    })
 }
 
 /// The line that begins with `head`, of what stands behind that.
@@ -77,7 +101,10 @@ fn headed<'a>(head: Head, line: &'a [u8]) -> Result<Line<'a>, &'a [u8]>
         Head::At(side) => {
             let (verb, behind) = next_verb(line)?;
             let call = call(verb, behind)?;
-            Ok(Line::Act { side: Some(side), call })
+            Ok(Line::Act {
+                side: Some(side),
+                call,
+            })
         }
         Head::Do(verb) => {
             let call = call(verb, line)?;
@@ -98,7 +125,9 @@ fn headed<'a>(head: Head, line: &'a [u8]) -> Result<Line<'a>, &'a [u8]>
             let tag = last_number(behind)?;
             Ok(Line::Drive { side, tag })
         }
-        Head::Tick => Ok(Line::Tick { count: last_number(line)? }),
+        Head::Tick => Ok(Line::Tick {
+            count: last_number(line)?,
+        }),
     }
 }
 
@@ -116,12 +145,15 @@ fn front<'a>(line: &'a [u8]) -> Result<Line<'a>, &'a [u8]>
     headed(head, behind)
 }
 
-/// The line that `line`, without its line feed, is; or its fault.
+/// The line that `line`, without its line feed, is; or its fault. A line that isn't blank is printed as it was read.
 pub fn read<'a>(line: &'a [u8]) -> Result<Line<'a>, Fault>
-    ensures { λ r. ⌜ lineRead r ≡ parse (now (line .entry)) ⌝ }
+    ensures words { λ r. ⌜ lineRead r ≡ parse (now (line .entry)) ⌝ }
+    ensures printed { λ r. ⌜ made r (λ l. 0 < length (wordsOf l) → shown l ≡ now (line .entry)) ⌝ }
 {
     match front(line) {
         Ok(known) => Ok(known),
-        Err(rest) => Err(Fault { column: line.len().saturating_sub(rest.len()) + 1 }),
+        Err(rest) => Err(Fault {
+            column: line.len().saturating_sub(rest.len()) + 1,
+        }),
     }
 }

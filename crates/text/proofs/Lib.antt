@@ -2,3 +2,4 @@ mod Steps
 mod Octets
 mod Choosing
 pub mod Rounds
+pub mod Inverse

@@ -40,15 +40,15 @@ spelt-one n l = record { reads = λ limit rest h. digit-more limit 0 n rest l (o
 
 spelt-more : (n : ℕ) (ds : List ℕ) → 10 ≤ n → Spelt (n / 10) ds → Spelt n (ds ++ ((48 + n % 10) ∷ []))
 spelt-more n ds l s = record {
-      reads = λ limit rest h.
-          ap (digits limit 0) (append-assoc ds ((48 + n % 10) ∷ []) rest) ∙ s .reads limit ((48 + n % 10) ∷ rest) (omega arith)
-          ∙ digit-more limit (n / 10) (n % 10) rest (omega arith) (omega arith) ∙ ap (λ j. digits limit j rest) (omega arith);
-      first = λ h.
-          let f = s .first (omega arith) in
-          let v : 0 < length ds = f .2 in
-          let e : getD (ds ++ ((48 + n % 10) ∷ [])) 0 0 ≡ getD ds 0 0 = getD-append-left ds ((48 + n % 10) ∷ []) 0 0 v in
-          (omega (arith, f .0), omega (arith, f .1), omega (arith, length-append ds ((48 + n % 10) ∷ [])));
-    }
+  reads = λ limit rest h.
+      ap (digits limit 0) (append-assoc ds ((48 + n % 10) ∷ []) rest) ∙ s .reads limit ((48 + n % 10) ∷ rest) (omega arith)
+      ∙ digit-more limit (n / 10) (n % 10) rest (omega arith) (omega arith) ∙ ap (λ j. digits limit j rest) (omega arith);
+  first = λ h.
+      let f = s .first (omega arith) in
+      let v : 0 < length ds = f .2 in
+      let e : getD (ds ++ ((48 + n % 10) ∷ [])) 0 0 ≡ getD ds 0 0 = getD-append-left ds ((48 + n % 10) ∷ []) 0 0 v in
+      (omega (arith, f .0), omega (arith, f .1), omega (arith, length-append ds ((48 + n % 10) ∷ [])));
+}
 
 spelt : (n : ℕ) → n < 2 ^ 64 → Spelt n (decimal n)
 spelt = decimal-by-steps Spelt spelt-one spelt-more
@@ -78,6 +78,7 @@ octet-back b rest l = ⊎-elim plain escaped (cases-bool (isPlain b))
     plain p =
         let e : eqb b 37 ≡ false = grind (arith, tells) in
         ap (λ z. octet (z ++ rest)) (cond-true _ _ _ p) ∙ rw (p, e)
+
     escaped : isPlain b ≡ false → octet (written b ++ rest) ≡ Ok (b, rest)
     escaped p =
         let h : (ltb 2 (b / 16) && ltb (b / 16) 7) ≡ false = grind (arith, tells) in
@@ -85,7 +86,7 @@ octet-back b rest l = ⊎-elim plain escaped (cases-bool (isPlain b))
         ap (λ z. octet (z ++ rest)) (cond-false _ _ _ p)
         ∙ rw (nibble-back (b / 16) (hexOf (b % 16) ∷ rest) (omega arith), h, nibble-back (b % 16) rest (omega arith), q, p)
 
-run-nil : (n : ℕ) → run n [] ≡ ([], [])
+pub run-nil : (n : ℕ) → run n [] ≡ ([], [])
 unfolding run
 run-nil zero = refl
 run-nil (suc n) = refl

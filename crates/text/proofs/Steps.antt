@@ -44,7 +44,6 @@ module _ (most n : ℕ) (bs : List ℕ) (i : ℕ) where
   unfolding digits
   digits-all v = let l : length bs ≤ length bs = omega arith in rw (take-rest bs (length bs), drop-all (length bs) bs l, drop-all i bs v)
 
-
 split-step : (b : ℕ) (bs : List ℕ) → (b ≡ 10 → ⊥) → splitLine (b ∷ bs) ≡ (b ∷ splitLine bs .0, splitLine bs .1)
 unfolding splitLine
 split-step b bs n = rw (ne-eqb b 10 n)
@@ -60,9 +59,10 @@ split-none = refl
 module _ (s : List ℕ) (i : ℕ) (inv : (take i s ++ splitLine (drop i s) .0 ≡ splitLine s .0) × (splitLine (drop i s) .1 ≡ splitLine s .1)) where
   pub split-more : i < length s → (getD s i 0 ≡ 10 → ⊥) → (take (i + 1) s ++ splitLine (drop (i + 1) s) .0 ≡ splitLine s .0) × (splitLine (drop (i + 1) s) .1 ≡ splitLine s .1)
   split-more l n =
-      let step = ap splitLine (drop-more s i 0 l) ∙ split-step (getD s i 0) (drop (i + 1) s) n in
-      (ap (λ z. z ++ splitLine (drop (i + 1) s) .0) (take-more s i 0 l) ∙ append-assoc (take i s) (getD s i 0 ∷ []) (splitLine (drop (i + 1) s) .0) ∙ ap (λ z. take i s ++ z .0) (sym step) ∙ inv .0,
-        ap (λ z. z .1) (sym step) ∙ inv .1)
+      let step = ap splitLine (drop-more s i 0 l) ∙ split-step (getD s i 0) (drop (i + 1) s) n in (
+        ap (λ z. z ++ splitLine (drop (i + 1) s) .0) (take-more s i 0 l) ∙ append-assoc (take i s) (getD s i 0 ∷ []) (splitLine (drop (i + 1) s) .0) ∙ ap (λ z. take i s ++ z .0) (sym step) ∙ inv .0,
+        ap (λ z. z .1) (sym step) ∙ inv .1,
+      )
 
   pub split-here : i < length s → getD s i 0 ≡ 10 → (take (i - 0) s ≡ splitLine s .0) × (take (length s - (i + 1)) (drop (i + 1) s) ≡ splitLine s .1)
   split-here l e =

@@ -7,8 +7,8 @@ use Rattle.text.proofs.front.strip.Needs.{then-i-line·by·then-i-line, then-i
 pub returns-then-i-line : need.returns-then-i-line
 returns-then-i-line c =
     elim (c .then-i-line .came) [
-      then-i-line·by·then-i-line w ↦ strip-ends _ _ _ (c .loop-i-test .taken) (w .if-i-line .taken) ∙ c .loop-i .inv .1
-    | then-i-line·by·else-i-line·then-line-i w ↦ strip-differs _ _ _ (c .loop-i-test .taken) (w .if-i-line .left) (w .if-line-i .taken) ∙ c .loop-i .inv .1
+      | then-i-line·by·then-i-line w ↦ strip-ends _ _ _ (c .loop-i-test .taken) (w .if-i-line .taken) ∙ c .loop-i .inv .1
+      | then-i-line·by·else-i-line·then-line-i w ↦ strip-differs _ _ _ (c .loop-i-test .taken) (w .if-i-line .left) (w .if-line-i .taken) ∙ c .loop-i .inv .1
     ]
 
 pub loop-i-again : need.loop-i-again

@@ -17,10 +17,10 @@ returns-in-Ok g c = choose-found _ _ _ _ _ _ (c .loop-word .inv) _ _ (c .loop-wo
 pub loop-word-again : need.loop-word-again
 loop-word-again g c =
     let m : c .if-at-far .far .now ≡ shorter (c .in-Err .at .now) (c .loop-word .far .now) =
-      elim (c .if-at-far .came) [
-        then-at-far w ↦ ap (λ r. r .now) (w .far-is) ∙ sym (cond-true _ _ _ (lt-ltb _ _ (w .if-at-far .taken)))
+    elim (c .if-at-far .came) [
+      | then-at-far w ↦ ap (λ r. r .now) (w .far-is) ∙ sym (cond-true _ _ _ (lt-ltb _ _ (w .if-at-far .taken)))
       | else-at-far w ↦ ap (λ r. r .now) (w .far-is) ∙ sym (cond-false _ _ _ (le-ltb _ _ (w .if-at-far .left)))
-      ] in
+    ] in
     choose-more _ _ _ _ _ _ (c .loop-word .inv) _ _ _ (c .loop-word-test .taken) (c .word-item .is) (c .in-Err .ensures tt ∙ ap (λ z. strip z (c .args .line .now)) (c .spelling .ensures)) m
 
 pub returns : need.returns
