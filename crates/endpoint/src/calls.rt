@@ -112,9 +112,10 @@ impl Endpoint {
             return Err(Refusal::NotThere);
         };
         let c = self.table.conns[lane];
+        let bye = c.farewell();
         self.table.conns[lane] = c.gone();
         self.table.remove(lane);
-        Ok(c.farewell())
+        Ok(bye)
     }
 
     /// Moves bytes that were got and not taken to the front of `out`, and says how many. What is left of a connection that is gone can be taken until it is forgotten.
