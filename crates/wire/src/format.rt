@@ -1,0 +1,112 @@
+ghost use lib.ListN.{length};
+ghost use mathlib.Core.Bool.{Bool, true, false};
+ghost use mathlib.Core.List.{List};
+ghost use mathlib.Core.Path.{_≡_};
+ghost use Prim.Native.Nat.{ℕ, _+_, _≤_};
+ghost use Rattle.packet.specs.Packets.{kindOf, packetOf};
+ghost use Rattle.wire.specs.Format.{faultIn, frame, kindIn, kindNumber, lengthFits, rangeFault, strayField, tagFault};
+use crate::fault::Fault;
+use crate::numbers::read16;
+use crate::numbers::read32;
+use crate::numbers::read64;
+use packet::packet::Head;
+use packet::packet::Kind;
+use packet::packet::SIZE;
+
+/// Bytes before the text.
+const HEADER: usize = 44;
+
+/// Bytes of a packet without text: the header and the check.
+pub const FRAME: usize = 48;
+
+/// No place of a stream is beyond this.
+const MOST_PLACE: u64 = 4611686018427387904;
+
+/// No edge is beyond this.
+const MOST_EDGE: u64 = 4611686018427453440;
+
+/// A packet that came: its text is a part of the bytes that it was read from.
+#[derive(Clone, Copy)]
+pub struct Received<'a> {
+    pub head: Head,
+    pub text: &'a [u8],
+}
+
+fn kind_byte(kind: Kind) -> u8
+    ensures { λ r. ⌜ r ≡ kindNumber (kindOf kind) ⌝ }
+{
+    match kind {
+        Kind::Ask => 1,
+        Kind::Yes => 2,
+        Kind::Text => 3,
+        Kind::Bye => 4,
+    }
+}
+
+fn kind_in(byte: u8) -> Option<Kind>
+    ensures { λ r. ⌜ r ≡ kindIn byte ⌝ }
+{
+    match byte {
+        1 => Some(Kind::Ask),
+        2 => Some(Kind::Yes),
+        3 => Some(Kind::Text),
+        4 => Some(Kind::Bye),
+        _ => None,
+    }
+}
+
+/// Whether a packet that is no text has more than its tags.
+fn stray_field(head: Head, text: &[u8]) -> bool
+    ensures { λ r. ⌜ r ≡ strayField (packetOf head (now (text .entry))) ⌝ }
+{
+    match head.kind {
+        Kind::Text => false,
+        Kind::Ask | Kind::Yes | Kind::Bye => {
+            head.last || head.all || text.len() != 0 || head.place != 0 || head.upto != 0 || head.edge != 0
+        }
+    }
+}
+
+fn tag_fault(head: Head) -> bool
+    ensures { λ r. ⌜ r ≡ tagFault (kindOf (head .kind)) (head .from) (head .to) ⌝ }
+{
+    if head.from == 0 {
+        return true;
+    }
+    match head.kind {
+        Kind::Ask => head.to != 0,
+        Kind::Yes | Kind::Text | Kind::Bye => head.to == 0,
+    }
+}
+
+fn range_fault(head: Head) -> bool
+    ensures { λ r. ⌜ r ≡ rangeFault (head .place) (head .upto) (head .edge) ⌝ }
+{
+    head.place > MOST_PLACE || head.upto > MOST_PLACE || head.edge > MOST_EDGE
+}
+
+/// The first fault of a packet's fields, which neither is written nor taken.
+fn fault_in(head: Head, text: &[u8]) -> Option<Fault>
+    ensures { λ r. ⌜ r ≡ faultIn (packetOf head (now (text .entry))) ⌝ }
+{
+    if stray_field(head, text) {
+        return Some(Fault::Zero);
+    }
+    if tag_fault(head) {
+        return Some(Fault::Zero);
+    }
+    if range_fault(head) {
+        return Some(Fault::Range);
+    }
+    None
+}
+
+fn length_fits(bytes: &[u8]) -> bool
+    ensures { λ r. ⌜ r ≡ lengthFits (now (bytes .entry)) ⌝ }
+{
+    if bytes.len() < FRAME {
+        return false;
+    }
+    let count = read16(bytes, 2) as usize;
+    count <= SIZE && bytes.len() == FRAME + count
+}

@@ -1,0 +1,4 @@
+//! Packets in bytes: the reader, the writer, and what holds of them.
+pub mod fault;
+pub mod format;
+mod numbers;
