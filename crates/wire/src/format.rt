@@ -4,11 +4,13 @@ ghost use mathlib.Core.List.{List};
 ghost use mathlib.Core.Path.{_≡_};
 ghost use Prim.Native.Nat.{ℕ, _+_, _≤_};
 ghost use Rattle.packet.specs.Packets.{kindOf, packetOf};
-ghost use Rattle.wire.specs.Format.{faultIn, frame, kindIn, kindNumber, lengthFits, rangeFault, strayField, tagFault};
+ghost use Rattle.wire.specs.Format.{decode, decodeFields, faultIn, fieldsOf, frame, kindIn, kindNumber, lengthFits, rangeFault, strayField, tagFault};
+ghost use Rattle.wire.specs.Reading.{packetIn, readOf};
 use crate::fault::Fault;
 use crate::numbers::read16;
 use crate::numbers::read32;
 use crate::numbers::read64;
+use crc32c::crc32c;
 use packet::packet::Head;
 use packet::packet::Kind;
 use packet::packet::SIZE;
@@ -109,4 +111,62 @@ fn length_fits(bytes: &[u8]) -> bool
     }
     let count = read16(bytes, 2) as usize;
     count <= SIZE && bytes.len() == FRAME + count
+}
+
+/// The fields as they stand.
+fn fields_of<'a>(kind: Kind, bytes: &'a [u8]) -> Received<'a>
+    requires long { ⌜ frame ≤ length (now bytes) ⌝ }
+    requires fits { ⌜ lengthFits (now bytes) ≡ true ⌝ }
+    ensures { λ r. ⌜ packetIn r ≡ fieldsOf kind (now (bytes .entry)) ⌝ }
+{
+    let end = HEADER + read16(bytes, 2) as usize;
+    let head = Head {
+        kind,
+        from: read64(bytes, 4),
+        to: read64(bytes, 12),
+        place: read64(bytes, 20),
+        last: bytes[1] & 1 == 1,
+        upto: read64(bytes, 28),
+        all: (bytes[1] >> 1) & 1 == 1,
+        edge: read64(bytes, 36),
+    };
+    Received {
+        head,
+        text: &bytes[HEADER..end],
+    }
+}
+
+fn read_fields<'a>(kind: Kind, bytes: &'a [u8]) -> Result<Received<'a>, Fault>
+    requires long { ⌜ frame ≤ length (now bytes) ⌝ }
+    requires fits { ⌜ lengthFits (now bytes) ≡ true ⌝ }
+    ensures { λ r. ⌜ readOf r ≡ decodeFields kind (now (bytes .entry)) ⌝ }
+{
+    if bytes[1] > 3 {
+        return Err(Fault::Zero);
+    }
+    let received = fields_of(kind, bytes);
+    match fault_in(received.head, received.text) {
+        Some(fault) => Err(fault),
+        None => Ok(received),
+    }
+}
+
+/// The packet that bytes are, or their first fault.
+pub fn read<'a>(bytes: &'a [u8]) -> Result<Received<'a>, Fault>
+    ensures { λ r. ⌜ readOf r ≡ decode (now (bytes .entry)) ⌝ }
+{
+    if bytes.is_empty() {
+        return Err(Fault::Shape);
+    }
+    let Some(kind) = kind_in(bytes[0]) else {
+        return Err(Fault::Shape);
+    };
+    if !length_fits(bytes) {
+        return Err(Fault::Shape);
+    }
+    let end = bytes.len() - 4;
+    if read32(bytes, end) != crc32c(&bytes[..end]) {
+        return Err(Fault::Check);
+    }
+    read_fields(kind, bytes)
 }
