@@ -1,10 +1,11 @@
-ghost use lib.ListN.{length};
+ghost use lib.ListN.{drop, length, take};
 ghost use mathlib.Core.Bool.{Bool, true, false};
-ghost use mathlib.Core.List.{List};
+ghost use mathlib.Core.List.{_++_};
 ghost use mathlib.Core.Path.{_≡_};
 ghost use Prim.Native.Nat.{ℕ, _+_, _≤_};
 ghost use Rattle.packet.specs.Packets.{kindOf, packetOf};
-ghost use Rattle.wire.specs.Format.{decode, decodeFields, faultIn, fieldsOf, frame, kindIn, kindNumber, lengthFits, rangeFault, strayField, tagFault};
+ghost use Rattle.packet.specs.Sizes.{textSize};
+ghost use Rattle.wire.specs.Format.{Written, decode, decodeFields, encode, faultIn, fieldsOf, flagsOf, frame, headerOf, kindIn, kindNumber, lengthFits, rangeFault, strayField, tagFault};
 ghost use Rattle.wire.specs.Reading.{packetIn, readOf};
 use crate::fault::Fault;
 use crate::numbers::read16;
@@ -169,4 +170,71 @@ pub fn read<'a>(bytes: &'a [u8]) -> Result<Received<'a>, Fault>
         return Err(Fault::Check);
     }
     read_fields(kind, bytes)
+}
+
+fn flags_of(last: bool, all: bool) -> u8
+    ensures { λ r. ⌜ r ≡ flagsOf last all ⌝ }
+{
+    (last as u8) | ((all as u8) << 1)
+}
+
+/// All before the text.
+fn header(head: Head, text: &[u8]) -> [u8; HEADER]
+    requires { ⌜ length (now text) ≤ textSize ⌝ }
+    ensures { λ r. ⌜ r ≡ headerOf (packetOf head (now (text .entry))) ⌝ }
+{
+    let count = (text.len() as u16).to_be_bytes();
+    let from = head.from.to_be_bytes();
+    let to = head.to.to_be_bytes();
+    let place = head.place.to_be_bytes();
+    let upto = head.upto.to_be_bytes();
+    let edge = head.edge.to_be_bytes();
+    [
+        kind_byte(head.kind), flags_of(head.last, head.all), count[0], count[1],
+        from[0], from[1], from[2], from[3], from[4], from[5], from[6], from[7],
+        to[0], to[1], to[2], to[3], to[4], to[5], to[6], to[7],
+        place[0], place[1], place[2], place[3], place[4], place[5], place[6], place[7],
+        upto[0], upto[1], upto[2], upto[3], upto[4], upto[5], upto[6], upto[7],
+        edge[0], edge[1], edge[2], edge[3], edge[4], edge[5], edge[6], edge[7],
+    ]
+}
+
+fn put(out: &mut [u8], at: usize, bytes: &[u8])
+    requires { ⌜ at + length (now bytes) ≤ length (now out) ⌝ }
+    ensures { λ _. ⌜ now (out .exit) ≡ take at (now (out .entry)) ++ (now (bytes .entry) ++ drop (at + length (now (bytes .entry))) (now (out .entry))) ⌝ }
+{
+    let end = at + bytes.len();
+    out[at..end].copy_from_slice(bytes);
+}
+
+/// Writes a packet to the front of `out`, which has room for it.
+fn write_all(head: Head, text: &[u8], out: &mut [u8]) -> usize
+    requires size { ⌜ length (now text) ≤ textSize ⌝ }
+    requires room { ⌜ frame + length (now text) ≤ length (now out) ⌝ }
+    ensures count { λ r. ⌜ r ≡ frame + length (now (text .entry)) ⌝ }
+    ensures bytes { λ r. ⌜ now (out .exit) ≡ encode (packetOf head (now (text .entry))) ++ drop r (now (out .entry)) ⌝ }
+{
+    let end = HEADER + text.len();
+    put(out, 0, &header(head, text));
+    put(out, HEADER, text);
+    let check = crc32c(&out[..end]).to_be_bytes();
+    put(out, end, &check);
+    FRAME + text.len()
+}
+
+/// Writes a packet to the front of `out` and says how many bytes it has. None, with `out` as it was, where that is too short or the
+/// reader would not take the packet.
+pub fn write(head: Head, text: &[u8], out: &mut [u8]) -> Option<usize>
+    ensures { λ r. ⌜ Written (packetOf head (now (text .entry))) (now (out .entry)) (now (out .exit)) r ⌝ }
+{
+    if text.len() > SIZE {
+        return None;
+    }
+    if fault_in(head, text).is_some() {
+        return None;
+    }
+    if out.len() < FRAME + text.len() {
+        return None;
+    }
+    Some(write_all(head, text, out))
 }
