@@ -1,2 +1,5 @@
 pub mod Judged
 pub mod Behind
+pub mod Took
+pub mod Digits
+pub mod Trip
