@@ -33,12 +33,12 @@ three p h a b d k out crc eh ea eb ec ek ed =
     let two : b ≡ (h ++ p .text) ++ drop n (drop (0 + length h) out) = behind h (p .text) (drop (0 + length h) out) a b 44 n1 ea eb in
     let n2 : length (h ++ p .text) ≡ 44 + n = length-append h (p .text) ∙ ap (λ (j : ℕ). j + n) n1 in
     let c1 : take (44 + n) b ≡ headerOf p ++ p .text =
-      front-of (h ++ p .text) (drop n (drop (0 + length h) out)) b (44 + n) n2 two ∙ ap (λ (x : List ℕ). x ++ p .text) eh in
+    front-of (h ++ p .text) (drop n (drop (0 + length h) out)) b (44 + n) n2 two ∙ ap (λ (x : List ℕ). x ++ p .text) eh in
     let k1 : k ≡ bytes4 (crcOf (headerOf p ++ p .text)) = ek ∙ ap bytes4 (ec ∙ ap crcOf c1) in
     let k2 : length k ≡ 4 = ap length ek in
     let all : d ≡ ((h ++ p .text) ++ k) ++ drop (length k) (drop n (drop (0 + length h) out)) =
-      behind (h ++ p .text) k (drop n (drop (0 + length h) out)) b d (44 + n) n2 two ed in
+    behind (h ++ p .text) k (drop n (drop (0 + length h) out)) b d (44 + n) n2 two ed in
     let tail : drop (length k) (drop n (drop (0 + length h) out)) ≡ drop (48 + n) out =
-      ap (drop (length k)) (drop-drop n (0 + length h) out) ∙ drop-drop (length k) (0 + length h + n) out ∙ ap (λ (j : ℕ). drop j out) (omega arith) in
+    ap (drop (length k)) (drop-drop n (0 + length h) out) ∙ drop-drop (length k) (0 + length h + n) out ∙ ap (λ (j : ℕ). drop j out) (omega arith) in
     all ∙ ap (λ (x : List ℕ). ((h ++ p .text) ++ k) ++ x) tail ∙ ap (λ (x : List ℕ). ((h ++ p .text) ++ x) ++ drop (48 + n) out) k1
     ∙ ap (λ (x : List ℕ). ((x ++ p .text) ++ bytes4 (crcOf (headerOf p ++ p .text))) ++ drop (48 + n) out) eh

@@ -3,3 +3,4 @@ pub mod Behind
 pub mod Took
 pub mod Digits
 pub mod Trip
+pub mod Cuts

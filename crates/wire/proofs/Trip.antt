@@ -30,7 +30,7 @@ use Rattle.wire.proofs.Took.{Took, took, takes}
 same-packet : (p q : m.Packet) → p .kind ≡ q .kind → p .from ≡ q .from → p .to ≡ q .to → p .place ≡ q .place → p .text ≡ q .text → p .last ≡ q .last → p .upto ≡ q .upto → p .all ≡ q .all → p .edge ≡ q .edge → p ≡ q
 same-packet p q a b c d e f g h i =
     let r : _≡_ {A = m.Packet} (record { kind = p .kind; from = p .from; to = p .to; place = p .place; text = p .text; last = p .last; upto = p .upto; all = p .all; edge = p .edge })
-      (record { kind = q .kind; from = q .from; to = q .to; place = q .place; text = q .text; last = q .last; upto = q .upto; all = q .all; edge = q .edge }) = cc in
+    (record { kind = q .kind; from = q .from; to = q .to; place = q .place; text = q .text; last = q .last; upto = q .upto; all = q .all; edge = q .edge }) = cc in
     r
 
 same-header : (k l f g : ℕ) (c d a1 b1 a2 b2 a3 b3 a4 b4 a5 b5 : List ℕ) → k ≡ l → f ≡ g → c ≡ d → a1 ≡ b1 → a2 ≡ b2 → a3 ≡ b3 → a4 ≡ b4 → a5 ≡ b5
@@ -172,3 +172,21 @@ header-of s k h long known flags =
     same-header _ _ _ _ _ _ _ _ _ _ _ _ _ _ _ _ (kind-of (getD s 0 0) k known) (flags-of (getD s 1 0) flags) c
     (bytes8-number64 s 4 h) (bytes8-number64 s 12 h) (bytes8-number64 s 20 h) (bytes8-number64 s 28 h) (bytes8-number64 s 36 h)
     ∙ sym (reads-are 44 s 0 (omega arith))
+
+covered-of : (s : List ℕ) (p : m.Packet) → Bytes s → (t : Took s p) → covered (fieldsOf (t .kind) s) ≡ take (length s - 4) s
+covered-of s p h t =
+    let l = t .long in
+    let at : 44 + number16 s 2 ≡ length s - 4 = omega arith in
+    ap (λ x. x ++ take (number16 s 2) (drop 44 s)) (header-of s (t .kind) h (sym l) (t .known) (t .flags)) ∙ sym (take-add 44 (number16 s 2) s) ∙ ap (λ n. take n s) at
+
+pub read-is-written : (s : List ℕ) (p : m.Packet) → Bytes s → decode s ≡ Ok p → s ≡ encode p
+read-is-written s p h e =
+    let t = took s p e in
+    let l = t .long in
+    let c : covered p ≡ take (length s - 4) s = ap covered (sym (t .fields)) ∙ covered-of s p h t in
+    let k : bytes4 (crcOf (covered p)) ≡ drop (length s - 4) s =
+    ap bytes4 (ap crcOf c ∙ sym (t .check)) ∙ bytes4-number32 s (length s - 4) h ∙ sym (last4 s (length s - 4) (omega arith)) in
+    sym (ap (λ x. x ++ bytes4 (crcOf (covered p))) c ∙ ap (λ x. take (length s - 4) s ++ x) k ∙ take-append-drop (length s - 4) s)
+
+pub one-way : (s t : List ℕ) (p : m.Packet) → Bytes s → Bytes t → decode s ≡ Ok p → decode t ≡ Ok p → s ≡ t
+one-way s t p h k d e = read-is-written s p h d ∙ sym (read-is-written t p k e)

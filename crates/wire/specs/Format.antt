@@ -98,7 +98,7 @@ fieldsOf k s = record {
   last = eqb (getD s 1 0 % 2) 1;
   upto = number64 s 28;
   all = eqb (getD s 1 0 / 2 % 2) 1;
-  edge = number64 s 36
+  edge = number64 s 36;
 }
 
 abbrev pub lengthFits : List ℕ → Bool

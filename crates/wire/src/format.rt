@@ -65,7 +65,12 @@ fn stray_field(head: Head, text: &[u8]) -> bool
     match head.kind {
         Kind::Text => false,
         Kind::Ask | Kind::Yes | Kind::Bye => {
-            head.last || head.all || text.len() != 0 || head.place != 0 || head.upto != 0 || head.edge != 0
+            head.last
+                || head.all
+                || text.len() != 0
+                || head.place != 0
+                || head.upto != 0
+                || head.edge != 0
         }
     }
 }
@@ -190,12 +195,50 @@ fn header(head: Head, text: &[u8]) -> [u8; HEADER]
     let upto = head.upto.to_be_bytes();
     let edge = head.edge.to_be_bytes();
     [
-        kind_byte(head.kind), flags_of(head.last, head.all), count[0], count[1],
-        from[0], from[1], from[2], from[3], from[4], from[5], from[6], from[7],
-        to[0], to[1], to[2], to[3], to[4], to[5], to[6], to[7],
-        place[0], place[1], place[2], place[3], place[4], place[5], place[6], place[7],
-        upto[0], upto[1], upto[2], upto[3], upto[4], upto[5], upto[6], upto[7],
-        edge[0], edge[1], edge[2], edge[3], edge[4], edge[5], edge[6], edge[7],
+        kind_byte(head.kind),
+        flags_of(head.last, head.all),
+        count[0],
+        count[1],
+        from[0],
+        from[1],
+        from[2],
+        from[3],
+        from[4],
+        from[5],
+        from[6],
+        from[7],
+        to[0],
+        to[1],
+        to[2],
+        to[3],
+        to[4],
+        to[5],
+        to[6],
+        to[7],
+        place[0],
+        place[1],
+        place[2],
+        place[3],
+        place[4],
+        place[5],
+        place[6],
+        place[7],
+        upto[0],
+        upto[1],
+        upto[2],
+        upto[3],
+        upto[4],
+        upto[5],
+        upto[6],
+        upto[7],
+        edge[0],
+        edge[1],
+        edge[2],
+        edge[3],
+        edge[4],
+        edge[5],
+        edge[6],
+        edge[7],
     ]
 }
 
