@@ -10,13 +10,13 @@ use Rattle.std.proofs.shelf.Bits.{div-add-mod'}
 use Rattle.crc32c.specs.Crc.{generator, bitStep, eightSteps, byteStep}
 
 -- four numbers in another order
-swap4 : (a b c d : ℕ) → bitXor (bitXor a b) (bitXor c d) ≡ bitXor (bitXor a c) (bitXor b d)
+pub swap4 : (a b c d : ℕ) → bitXor (bitXor a b) (bitXor c d) ≡ bitXor (bitXor a c) (bitXor b d)
 swap4 a b c d =
     xor-assoc a b (bitXor c d)
     ∙ ap (bitXor a) (sym (xor-assoc b c d) ∙ ap (λ (x : ℕ). bitXor x d) (xor-comm b c) ∙ xor-assoc c b d)
     ∙ sym (xor-assoc a c (bitXor b d))
 
-bit-cases : (n : ℕ) → n < 2 → (n ≡ 0) ⊎ (n ≡ 1)
+pub bit-cases : (n : ℕ) → n < 2 → (n ≡ 0) ⊎ (n ≡ 1)
 bit-cases n h = grind arith
 
 times : (p q : ℕ) → p < 2 → q < 2 → bitXor p q * generator ≡ bitXor (p * generator) (q * generator)
@@ -38,7 +38,7 @@ pub byte-linear : (a b : ℕ) → eightSteps (bitXor a b) ≡ bitXor (eightSteps
 unfolding eightSteps
 byte-linear a b = simp bit-linear
 
-even : (m : ℕ) → bitStep (m * 2) ≡ m
+pub even : (m : ℕ) → bitStep (m * 2) ≡ m
 even m =
     let h : m * 2 / 2 ≡ m = omega arith in
     let o : m * 2 % 2 ≡ 0 = omega arith in

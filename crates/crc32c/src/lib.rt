@@ -5,6 +5,7 @@ ghost use Prim.Native.Nat.{ℕ, _+_, _≤_};
 ghost use Rattle.crc32c.specs.Crc.{byteStep, crcOf, eightSteps, registerAfter};
 use crate::table::TABLE;
 
+pub mod laws;
 mod table;
 
 fn entry(i: u8) -> u32
