@@ -216,3 +216,9 @@ four-apart s t h k l few pos = go (cases-lt (bitsApart s t + ones e) 4)
         let a : bitsApart s t ≡ ones d = apart-is s t h k l in
         let ht : numberOf t < 2 ^ n = subst (λ i. numberOf t < 2 ^ (8 * i)) (sym l) (number-lt t k) in
         absurd (close n d e (xor-lt n (numberOf s) (numberOf t) (number-lt s h) ht) (omega arith) (xor-lt 32 (crcOf s) (crcOf t) (crc-lt s h) (crc-lt t k)) (crc-apart s t h k l) (omega arith) (omega arith))
+
+pub none-apart : (s t : List ℕ) → Bytes s → Bytes t → length s ≡ length t → bitsApart s t ≡ 0 → ones (bitXor (crcOf s) (crcOf t)) ≡ 0
+none-apart s t h k l z =
+    let ht : numberOf t < 2 ^ (8 * length s) = subst (λ i. numberOf t < 2 ^ (8 * i)) (sym l) (number-lt t k) in
+    let d : bitXor (numberOf s) (numberOf t) ≡ 0 = ones-none (8 * length s) _ (xor-lt (8 * length s) (numberOf s) (numberOf t) (number-lt s h) ht) (sym (apart-is s t h k l) ∙ z) in
+    ap ones (crc-apart s t h k l ∙ ap (steps (8 * length s)) d ∙ steps-zero (8 * length s)) ∙ ones-of-0

@@ -4,3 +4,4 @@ pub mod Took
 pub mod Digits
 pub mod Trip
 pub mod Cuts
+pub mod Damage

@@ -2,13 +2,15 @@
 use mathlib.Core.Path.{_≡_}
 use mathlib.Core.Bool.{true}
 use mathlib.Core.List.{List, _++_}
-use Prim.Native.Nat.{ℕ, _^_, _<_}
-use lib.ListN.{length, take}
+use Prim.Native.Nat.{ℕ, _-_, _^_, _≤_, _<_}
+use lib.ListN.{length, take, drop}
 use Rattle.std.specs.declared.result.Result.{Result}
 use Rattle.std.specs.declared.result.Result.the-variants.{Ok, Err}
 use Rattle.hold.specs.Packet as m
+use Rattle.wire.specs.declared.fault.Fault.{Fault}
 use Rattle.wire.specs.declared.fault.Fault.the-variants.{Shape}
 use Rattle.crc32c.specs.Crc.{Bytes}
+use Rattle.crc32c.specs.Distance.{OneRun, bitsApart}
 use Rattle.wire.specs.Format.{decode, encode, sound}
 
 -- a packet whose tags are numbers of 64 bits, and whose text is bytes
@@ -36,3 +38,26 @@ CutIsRefused = (s : List ℕ) (p : m.Packet) (n : ℕ) → decode s ≡ Ok p →
 -- and so is one with bytes behind it
 abbrev pub LongerIsRefused : Type 0
 LongerIsRefused = (s t : List ℕ) (p : m.Packet) → decode s ≡ Ok p → 0 < length t → decode (s ++ t) ≡ Err Shape
+
+abbrev pub Refused : List ℕ → Type 0
+Refused s = (f : Fault) × (decode s ≡ Err f)
+
+-- what stands before the check, and the check
+abbrev pub body : List ℕ → List ℕ
+body s = take (length s - 4) s
+
+abbrev pub checkOf : List ℕ → List ℕ
+checkOf s = drop (length s - 4) s
+
+-- A packet of which a run of up to 32 bits before the check is changed is refused. Bits are counted as the check takes them, the lowest of each
+-- byte first.
+abbrev pub RunIsRefused : Type 0
+RunIsRefused = (s t : List ℕ) (p : m.Packet) → Bytes s → Bytes t → length s ≡ length t → decode s ≡ Ok p → checkOf s ≡ checkOf t → OneRun (body s) (body t) → Refused t
+
+-- and so is one of which only the check is changed
+abbrev pub OtherCheckIsRefused : Type 0
+OtherCheckIsRefused = (s t : List ℕ) (p : m.Packet) → Bytes s → Bytes t → length s ≡ length t → decode s ≡ Ok p → body s ≡ body t → (checkOf s ≡ checkOf t → ⊥) → Refused t
+
+-- and one of which up to three bits are changed, anywhere
+abbrev pub FewBitsAreRefused : Type 0
+FewBitsAreRefused = (s t : List ℕ) (p : m.Packet) → Bytes s → Bytes t → length s ≡ length t → decode s ≡ Ok p → 0 < bitsApart s t → bitsApart s t ≤ 3 → Refused t

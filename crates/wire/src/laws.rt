@@ -1,5 +1,5 @@
 //! What holds of packets and their bytes; each function asks for a proof of one law, and does nothing.
-ghost use Rattle.wire.specs.Laws.{CutIsRefused, LongerIsRefused, OneWay, ReadIsWritten, WrittenIsRead};
+ghost use Rattle.wire.specs.Laws.{CutIsRefused, FewBitsAreRefused, LongerIsRefused, OneWay, OtherCheckIsRefused, ReadIsWritten, RunIsRefused, WrittenIsRead};
 
 pub fn written_is_read() -> u8
     ensures { λ _. ⌜ WrittenIsRead ⌝ }
@@ -27,6 +27,24 @@ pub fn cut_is_refused() -> u8
 
 pub fn longer_is_refused() -> u8
     ensures { λ _. ⌜ LongerIsRefused ⌝ }
+{
+    0
+}
+
+pub fn run_is_refused() -> u8
+    ensures { λ _. ⌜ RunIsRefused ⌝ }
+{
+    0
+}
+
+pub fn other_check_is_refused() -> u8
+    ensures { λ _. ⌜ OtherCheckIsRefused ⌝ }
+{
+    0
+}
+
+pub fn few_bits_are_refused() -> u8
+    ensures { λ _. ⌜ FewBitsAreRefused ⌝ }
 {
     0
 }
