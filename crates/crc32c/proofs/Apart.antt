@@ -103,8 +103,9 @@ two (suc m) x h o z =
 bit-even : (p q : ℕ) → p < 2 → q < 2 → (bitXor p q + p + q) % 2 ≡ 0
 bit-even p q hp hq =
     elim (bit-cases p hp) [
-      inl e ↦ elim (bit-cases q hq) [ inl f ↦ rw (e, f) | inr f ↦ rw (e, f) ]
-    | inr e ↦ elim (bit-cases q hq) [ inl f ↦ rw (e, f) | inr f ↦ rw (e, f) ] ]
+      | inl e ↦ elim (bit-cases q hq) [ inl f ↦ rw (e, f) | inr f ↦ rw (e, f) ]
+      | inr e ↦ elim (bit-cases q hq) [ inl f ↦ rw (e, f) | inr f ↦ rw (e, f) ]
+    ]
 
 xor-even : (m a b : ℕ) → a < 2 ^ m → b < 2 ^ m → (ones (bitXor a b) + ones a + ones b) % 2 ≡ 0
 xor-even zero a b h k =
@@ -132,10 +133,10 @@ step-even m c w h =
     ⊎-elim
     (λ (e : c % 2 ≡ 0). let q : ones (bitStep c) ≡ ones (c / 2) = ap ones (even-step c e) in omega arith)
     (λ (e : c % 2 ≡ 1).
-        let q : ones (bitStep c) ≡ ones (bitXor (c / 2) generator) = ap ones (odd-step c e) in
-        let g = ones-of-generator in
-        let r = xor-even m (c / 2) generator (omega arith) (omega arith) in
-        omega arith)
+    let q : ones (bitStep c) ≡ ones (bitXor (c / 2) generator) = ap ones (odd-step c e) in
+    let g = ones-of-generator in
+    let r = xor-even m (c / 2) generator (omega arith) (omega arith) in
+    omega arith)
     (bit-cases (c % 2) (omega arith))
 
 step-lt : (m c : ℕ) → 2 ^ 32 ≤ 2 ^ m → c < 2 ^ m → bitStep c < 2 ^ m

@@ -40,7 +40,7 @@ front : (c n b : ℕ) → b < 2 ^ 8 → eightSteps (bitXor c (n * 2 ^ 8 + b)) �
 unfolding byteStep
 front c n b h =
     let e : bitXor c (n * 2 ^ 8 + b) ≡ bitXor (bitXor c b) (n * 2 ^ 8) =
-      ap (bitXor c) (sym (xor-shifted n 8 b h) ∙ xor-comm (n * 2 ^ 8) b) ∙ sym (xor-assoc c b (n * 2 ^ 8)) in
+    ap (bitXor c) (sym (xor-shifted n 8 b h) ∙ xor-comm (n * 2 ^ 8) b) ∙ sym (xor-assoc c b (n * 2 ^ 8)) in
     ap eightSteps e ∙ byte-linear (bitXor c b) (n * 2 ^ 8) ∙ ap (bitXor (eightSteps (bitXor c b))) (high n)
 
 pub register-is : (c : ℕ) (bs : List ℕ) → Bytes bs → registerAfter c bs ≡ steps (8 * length bs) (bitXor c (numberOf bs))

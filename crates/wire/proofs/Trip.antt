@@ -12,6 +12,7 @@ use Rattle.std.proofs.shelf.Tests.{and-parts, leb-true, ltb-false, or-parts}
 use Rattle.std.proofs.shelf.Ways.{tells}
 use Rattle.std.specs.declared.option.Option.{Option}
 use Rattle.std.specs.declared.option.Option.the-variants.{Some, None}
+use Rattle.std.specs.declared.result.Result.{Result}
 use Rattle.std.specs.declared.result.Result.the-variants.{Ok, Err}
 use Rattle.hold.specs.Packet as m
 use Rattle.crc32c.specs.Crc.{Bytes, crcOf}
@@ -22,8 +23,8 @@ use Rattle.packet.specs.declared.packet.Kind.the-variants.{Ask, Yes, Text, Bye}
 use Rattle.wire.specs.declared.fault.Fault.{Fault}
 use Rattle.wire.specs.declared.fault.Fault.the-variants.{Zero, Range}
 use Rattle.wire.specs.Numbers.{number16, number32, number64, bytes2, bytes4, bytes8}
-use Rattle.wire.specs.Format.{checkFits, covered, decode, encode, faultIn, fieldsOf, flagsOf, headerOf, isNone, kindIn, kindNumber, rangeFault, sound, strayField, tagFault, mostPlace, mostEdge}
-use Rattle.wire.specs.Laws.{Fits}
+use Rattle.wire.specs.Format.{Written, checkFits, covered, decode, encode, faultIn, fieldsOf, flagsOf, headerOf, isNone, kindIn, kindNumber, rangeFault, sound, strayField, tagFault, mostPlace, mostEdge}
+use Rattle.wire.specs.Laws.{Fits, ReadsBack, WasWritten}
 use Rattle.wire.proofs.Digits.{number64-bytes8, number32-bytes4, number16-bytes2, bytes8-are, bytes8-number64, bytes4-number32, bytes2-number16, from4, from8, reads, reads-are, last4}
 use Rattle.wire.proofs.Took.{Took, took, takes}
 
@@ -190,3 +191,11 @@ read-is-written s p h e =
 
 pub one-way : (s t : List ℕ) (p : m.Packet) → Bytes s → Bytes t → decode s ≡ Ok p → decode t ≡ Ok p → s ≡ t
 one-way s t p h k d e = read-is-written s p h d ∙ sym (read-is-written t p k e)
+
+pub was-written : (s : List ℕ) (r : Result m.Packet Fault) → Bytes s → r ≡ decode s → WasWritten s r
+was-written s (Ok p) h e = read-is-written s p h (sym e)
+was-written s (Err f) h e = tt
+
+pub reads-back : (p : m.Packet) (before after : List ℕ) (n : ℕ) → Fits p → Written p before after (Some n) → ReadsBack p after (Some n)
+reads-back p before after n f (s, count, e) =
+    ap (λ t. decode (take n t)) e ∙ ap decode (take-at (encode p) (drop n before) n (encode-length p ∙ sym count)) ∙ written-is-read p f s

@@ -4,6 +4,8 @@ use mathlib.Core.Bool.{true}
 use mathlib.Core.List.{List, _++_}
 use Prim.Native.Nat.{ℕ, _-_, _^_, _≤_, _<_}
 use lib.ListN.{length, take, drop}
+use Rattle.std.specs.declared.option.Option.{Option}
+use Rattle.std.specs.declared.option.Option.the-variants.{Some, None}
 use Rattle.std.specs.declared.result.Result.{Result}
 use Rattle.std.specs.declared.result.Result.the-variants.{Ok, Err}
 use Rattle.hold.specs.Packet as m
@@ -18,6 +20,16 @@ pub record Fits (p : m.Packet) : Type 0 where
   pub from : p .from < 2 ^ 64
   pub to : p .to < 2 ^ 64
   pub text : Bytes (p .text)
+
+-- what was written to the front of some bytes is read back
+abbrev pub ReadsBack : m.Packet → List ℕ → Option ℕ → Type 0
+ReadsBack p after None = Unit
+ReadsBack p after (Some n) = decode (take n after) ≡ Ok p
+
+-- bytes that were read were written so
+abbrev pub WasWritten : List ℕ → Result m.Packet Fault → Type 0
+WasWritten s (Ok p) = s ≡ encode p
+WasWritten s (Err f) = Unit
 
 -- what is written is read back as it was
 abbrev pub WrittenIsRead : Type 0

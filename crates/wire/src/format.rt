@@ -2,10 +2,11 @@ ghost use lib.ListN.{drop, length, take};
 ghost use mathlib.Core.Bool.{Bool, true, false};
 ghost use mathlib.Core.List.{_++_};
 ghost use mathlib.Core.Path.{_≡_};
-ghost use Prim.Native.Nat.{ℕ, _+_, _≤_};
+ghost use Prim.Native.Nat.{ℕ, _+_, _^_, _≤_, _<_};
 ghost use Rattle.packet.specs.Packets.{kindOf, packetOf};
 ghost use Rattle.packet.specs.Sizes.{textSize};
 ghost use Rattle.wire.specs.Format.{Written, decode, decodeFields, encode, faultIn, fieldsOf, flagsOf, frame, headerOf, kindIn, kindNumber, lengthFits, rangeFault, strayField, tagFault};
+ghost use Rattle.wire.specs.Laws.{ReadsBack, WasWritten};
 ghost use Rattle.wire.specs.Reading.{packetIn, readOf};
 use crate::fault::Fault;
 use crate::numbers::read16;
@@ -159,7 +160,8 @@ fn read_fields<'a>(kind: Kind, bytes: &'a [u8]) -> Result<Received<'a>, Fault>
 
 /// The packet that bytes are, or their first fault.
 pub fn read<'a>(bytes: &'a [u8]) -> Result<Received<'a>, Fault>
-    ensures { λ r. ⌜ readOf r ≡ decode (now (bytes .entry)) ⌝ }
+    ensures read { λ r. ⌜ readOf r ≡ decode (now (bytes .entry)) ⌝ }
+    ensures written { λ r. ⌜ WasWritten (now (bytes .entry)) (readOf r) ⌝ }
 {
     if bytes.is_empty() {
         return Err(Fault::Shape);
@@ -186,7 +188,8 @@ fn flags_of(last: bool, all: bool) -> u8
 /// All before the text.
 fn header(head: Head, text: &[u8]) -> [u8; HEADER]
     requires { ⌜ length (now text) ≤ textSize ⌝ }
-    ensures { λ r. ⌜ r ≡ headerOf (packetOf head (now (text .entry))) ⌝ }
+    ensures bytes { λ r. ⌜ r ≡ headerOf (packetOf head (now (text .entry))) ⌝ }
+    ensures tags { λ r. ⌜ (head .from < 2 ^ 64) × (head .to < 2 ^ 64) ⌝ }
 {
     let count = (text.len() as u16).to_be_bytes();
     let from = head.from.to_be_bytes();
@@ -256,6 +259,7 @@ fn write_all(head: Head, text: &[u8], out: &mut [u8]) -> usize
     requires room { ⌜ frame + length (now text) ≤ length (now out) ⌝ }
     ensures count { λ r. ⌜ r ≡ frame + length (now (text .entry)) ⌝ }
     ensures bytes { λ r. ⌜ now (out .exit) ≡ encode (packetOf head (now (text .entry))) ++ drop r (now (out .entry)) ⌝ }
+    ensures tags { λ r. ⌜ (head .from < 2 ^ 64) × (head .to < 2 ^ 64) ⌝ }
 {
     let end = HEADER + text.len();
     put(out, 0, &header(head, text));
@@ -268,7 +272,8 @@ fn write_all(head: Head, text: &[u8], out: &mut [u8]) -> usize
 /// Writes a packet to the front of `out` and says how many bytes it has. None, with `out` as it was, where that is too short or the
 /// reader would not take the packet.
 pub fn write(head: Head, text: &[u8], out: &mut [u8]) -> Option<usize>
-    ensures { λ r. ⌜ Written (packetOf head (now (text .entry))) (now (out .entry)) (now (out .exit)) r ⌝ }
+    ensures written { λ r. ⌜ Written (packetOf head (now (text .entry))) (now (out .entry)) (now (out .exit)) r ⌝ }
+    ensures back { λ r. ⌜ ReadsBack (packetOf head (now (text .entry))) (now (out .exit)) r ⌝ }
 {
     if text.len() > SIZE {
         return None;
