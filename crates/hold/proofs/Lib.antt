@@ -18,6 +18,7 @@ pub mod Pieces
 pub mod Bridge
 pub mod SelfMoves
 pub mod SelfRounds
+pub mod Drive
 pub mod Zero
 pub mod Touch
 pub mod Below

@@ -13,6 +13,7 @@ use Rattle.hold.specs.Conn.{Conn, Phase, Asked, Half, Open, Gone, Last}
 use Rattle.hold.specs.World.{Who, L, R, World, start, end, other, isOpen, isAsked, gone}
 use Rattle.hold.specs.Promise.{At, One, lives}
 use Rattle.hold.specs.Rules.{Front, isHalf}
+use Rattle.hold.specs.Self.{missing}
 use Rattle.hold.specs.Live.{System, only, Reach, Pair, Heard, Brought, Took, AllCame, RulesBring}
 use Rattle.hold.proofs.Table.{one-tag}
 use Rattle.hold.proofs.Truth.{FactsOf, front-length, Asker}
@@ -26,10 +27,6 @@ pub drop-length : (p : ℕ) (xs : List ℕ) → length xs ≤ p + length (drop p
 drop-length zero xs = omega arith
 drop-length (suc p) [] = omega arith
 drop-length (suc p) (x ∷ xs) = omega (arith, drop-length p xs)
-
--- what is given and not got
-abbrev pub missing : Conn → Conn → ℕ
-missing c d = length (drop (length (c .got)) (d .given))
 
 pub back : (o : Who) (w : World) (c : Conn) → At (other (other o)) w c → At o w c
 back L w c m = m

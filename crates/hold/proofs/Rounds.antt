@@ -11,6 +11,7 @@ use Rattle.hold.specs.Packet.{Settings, Packet, Text}
 use Rattle.hold.specs.Conn.{Conn, Phase, Asked, Half, Open, Gone, openWith, takes, hears, due}
 use Rattle.hold.specs.World.{Who, World, Ev, Listens, Opens, Due, Gives, Closes, Takes, Sends, Breaks, Forgets, Hears, end, other, comingTo, put, changed, gone, isAsked, byTag, There, dueBy, dueIf, onText, onKind, hearsNth, step, world}
 use Rattle.hold.specs.Promise.{At, One, tags, apart, onlyMoves, lives, NoStand, Main}
+use Rattle.hold.specs.Self.{missing}
 use Rattle.hold.specs.Live.{System, only, Pair, Heard, Brought, Took, AllCame}
 use Rattle.hold.proofs.Bricks.{true→T}
 use Rattle.hold.proofs.Table.{byTag-finds, mem-changed}
@@ -18,7 +19,7 @@ use Rattle.hold.proofs.Puts.{end-put, end-put′, end-put″, coming-put}
 use Rattle.hold.proofs.Carry.{hears-due}
 use Rattle.hold.proofs.Inv.{inv, apart-at}
 use Rattle.hold.proofs.Parts.{holds, run-chain}
-use Rattle.hold.proofs.Live.{missing, rules-bring}
+use Rattle.hold.proofs.Live.{rules-bring}
 
 -- one step at a time
 due-step : (cfg : Settings) (w : World) (o : Who) (a : Conn) → apart (tags (end o w .conns)) ≡ true → At o w a → a .phase ≡ Open → step cfg (Due o (a .mine)) w ≡ put o (end o w) (due cfg a ∷ []) [] w

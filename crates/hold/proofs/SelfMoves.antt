@@ -2,7 +2,7 @@
 use mathlib.Core.Path.{_≡_, refl, sym, ap, subst, _∙_}
 use mathlib.Core.Bool.{true, false, _&&_, _||_, not}
 use mathlib.Core.Logic.{inl, inr, ⊎-elim}
-use mathlib.Core.List.{List, [], _∷_, _++_, append-assoc, append-nil}
+use mathlib.Core.List.{List, [], _∷_, _++_, append-assoc}
 use Prim.Native.Nat.{ℕ, _+_, _≤_}
 use native.Mathlib.Omega.{arith}
 use lib.Dec.{eqb}
@@ -13,7 +13,7 @@ use Rattle.hold.specs.Conn.{Conn, Phase, Open, openWith, takes, hears, says}
 use Rattle.hold.specs.World.{Who, L, R, End, World, Ev, Due, Takes, Sends, Hears, end, other, comingTo, put, changed, gone, isOpen, isAsked, byTag, There, saysIf, dueBy, dueIf, onYes, onText, onKind, step, world}
 use Rattle.hold.specs.Promise.{At, One, tags, apart}
 use Rattle.hold.specs.Code.{isText, hasBytes, wantsAnswer}
-use Rattle.hold.specs.Self.{Self, Clock, Brings, Take, speaks, onClock, isYes, onHearing, onNth, makes, made}
+use Rattle.hold.specs.Self.{Self, Clock, Brings, speaks, onClock, isYes, onHearing, onNth, makes, made}
 use Rattle.hold.proofs.Table.{one-tag, byTag-finds, mem-changed}
 use Rattle.hold.proofs.Puts.{end-put}
 use Rattle.hold.proofs.Truth.{FactsOf, Tie, fresh-facts}
@@ -78,7 +78,7 @@ pair-facts cfg es o p c d u = go (tie-in cfg es o p c (u .ends) (u .at-c))
     go (inr (_, inr t)) = subst (FactsOf cfg c) (one-tag _ (t .partner) d (apart-in cfg es p) (t .there) (u .at-d) (sym (t .one .0) ∙ u .one .0)) (t .facts)
 
 module _ (cfg : Settings) (es : List Ev) (o p : Who) (c d : Conn) (u : Pair cfg es o p c d) where
-  finds : byTag (c .mine) (end o (world cfg es) .conns) ≡ There c
+  pub finds : byTag (c .mine) (end o (world cfg es) .conns) ≡ There c
   finds = byTag-finds _ c (apart-in cfg es o) (u .at-c) (u .live-c .stays)
 
   -- c sends
@@ -126,19 +126,58 @@ module _ (cfg : Settings) (es : List Ev) (o p : Who) (c d : Conn) (u : Pair cfg 
         cond-false _ _ _ (u .live-c .settled) ∙ cond-true _ _ _ (eq-eqb _ _ (u .one .0 ∙ sym from)) in
         record { ends = u .ends; at-c = rw same (u .at-c); at-d = rw same (u .at-d); live-c = u .live-c; live-d = u .live-d; one = u .one }
 
--- moves from one list of events to another, that make so many events at most
-pub record Reach (cfg : Settings) (n : ℕ) (es gs : List Ev) : Type 0 where
-  pub by : List Self
-  pub is : made cfg es by ++ es ≡ gs
-  pub count : length (made cfg es by) ≤ n
+-- what each move makes
+pub clock-makes : (cfg : Settings) (es : List Ev) (o p : Who) (c d : Conn) → Pair cfg es o p c d → speaks c (c .phase) ≡ true → makes cfg (world cfg es) (Clock o (c .mine)) ≡ Due o (c .mine) ∷ []
+clock-makes cfg es o p c d u e = ap (onClock o) (finds cfg es o p c d u) ∙ cond-true _ _ _ e
 
-pub reach-none : (cfg : Settings) (es : List Ev) → Reach cfg 0 es es
-unfolding made
-reach-none cfg es = record { by = []; is = refl; count = omega arith }
+-- c, as it is after it heard q, and what it says to that
+module _ (cfg : Settings) (es : List Ev) (o p : Who) (c d : Conn) (u : Pair cfg (Hears o 0 0 ∷ es) o p c d) (q : Packet) (qs : List Packet) (come : comingTo o (world cfg es) ≡ q ∷ qs) (from : q .from ≡ d .mine) (to : q .to ≡ c .mine) where
+  hearing : (fs : List Ev) → onHearing cfg o q (There c) ≡ fs → makes cfg (world cfg es) (Brings o 0 0) ≡ fs ++ (Hears o 0 0 ∷ [])
+  unfolding onNth world
+  hearing fs e = ap (λ z. z ++ (Hears o 0 0 ∷ [])) (ap (λ z. onNth cfg o 0 z (end o (step cfg (Hears o 0 0) (world cfg es)) .conns)) come ∙
+      ap (onHearing cfg o q) (ap (λ z. byTag z (end o (step cfg (Hears o 0 0) (world cfg es)) .conns)) to ∙ finds cfg (Hears o 0 0 ∷ es) o p c d u) ∙ e)
 
-pub reach-one : (cfg : Settings) (es : List Ev) (m : Self) (fs : List Ev) → makes cfg (world cfg es) m ≡ fs → Reach cfg (length fs) es (fs ++ es)
+  for-me : (not (isAsked (c .phase)) && eqb (c .theirs) (q .from)) ≡ true
+  for-me = and-from _ _ (ap not (u .live-c .settled)) (eq-eqb _ _ (u .one .0 ∙ sym from))
+
+  pub answer-makes : wantsAnswer q ≡ true → makes cfg (world cfg es) (Brings o 0 0) ≡ Sends o (c .mine) (c .upto) (cfg .size) ∷ Hears o 0 0 ∷ []
+  answer-makes w = hearing (Sends o (c .mine) (c .upto) (cfg .size) ∷ []) (cond-true _ _ _ for-me ∙ cond-true _ _ _ w)
+
+  pub yes-makes : q .kind ≡ Yes → c .phase ≡ Open → makes cfg (world cfg es) (Brings o 0 0) ≡ Due o (c .mine) ∷ Hears o 0 0 ∷ []
+  yes-makes k h = hearing (Due o (c .mine) ∷ []) (cond-true _ _ _ for-me ∙ cond-false _ _ _ (silent (q .kind) k) ∙ cond-true _ _ _ (and-from _ _ (ap isYes k) (ap isOpen h)))
+    where
+      silent : (z : Kind) → z ≡ Yes → (isText z && (q .last || hasBytes (q .text))) ≡ false
+      silent z e = rw e refl
+
+  pub quiet-makes : q .kind ≡ Text → wantsAnswer q ≡ false → makes cfg (world cfg es) (Brings o 0 0) ≡ Hears o 0 0 ∷ []
+  quiet-makes k w = hearing [] (cond-true _ _ _ for-me ∙ cond-false _ _ _ w ∙ cond-false _ _ _ (silent (q .kind) k))
+    where
+      silent : (z : Kind) → z ≡ Text → (isYes z && isOpen (c .phase)) ≡ false
+      silent z e = rw e refl
+
+  -- whatever it says to a text, all stays as it is
+  pub some-makes : q .kind ≡ Text → c .phase ≡ Open → (fs : List Ev) × (makes cfg (world cfg es) (Brings o 0 0) ≡ fs) × (length fs ≤ 2) × Pair cfg (fs ++ es) o p c d
+  some-makes k h = ⊎-elim (λ w. (Sends o (c .mine) (c .upto) (cfg .size) ∷ Hears o 0 0 ∷ [], answer-makes w, omega arith, by-answer cfg (Hears o 0 0 ∷ es) o p c d u (c .upto) (cfg .size) h .0))
+      (λ w. (Hears o 0 0 ∷ [], quiet-makes k w, omega arith, u)) (cases-bool (wantsAnswer q))
+
+-- these moves lead from one list of events to another, and make so many events at most
+pub record Reach (cfg : Settings) (n : ℕ) (es : List Ev) (ms : List Self) (gs : List Ev) : Type 0 where
+  pub is : made cfg es ms ++ es ≡ gs
+  pub count : length (made cfg es ms) ≤ n
+
+pub reach-none : (cfg : Settings) (es : List Ev) → Reach cfg 0 es [] es
 unfolding made
-reach-one cfg es m fs e = record { by = m ∷ []; is = ap (λ z. z ++ es) (append-nil (makes cfg (world cfg es) m) ∙ e); count = omega (arith, ap length (append-nil (makes cfg (world cfg es) m) ∙ e)) }
+reach-none cfg es = record { is = refl; count = omega arith }
+
+pub reach-more : (cfg : Settings) (n : ℕ) (es : List Ev) (ms : List Self) (gs : List Ev) (m : Self) (fs : List Ev) → makes cfg (world cfg gs) m ≡ fs → Reach cfg n es ms gs → Reach cfg (length fs + n) es (m ∷ ms) (fs ++ gs)
+unfolding made
+reach-more cfg n es ms gs m fs e r = record {
+  is = ap (λ z. z ++ es) all ∙ append-assoc fs (made cfg es ms) es ∙ ap (λ z. fs ++ z) (r .is);
+  count = omega (arith, ap length all, length-append fs (made cfg es ms), r .count);
+}
+  where
+    all : makes cfg (world cfg (made cfg es ms ++ es)) m ++ made cfg es ms ≡ fs ++ made cfg es ms
+    all = ap (λ z. z ++ made cfg es ms) (ap (λ z. makes cfg (world cfg z) m) (r .is) ∙ e)
 
 made-app : (cfg : Settings) (es : List Ev) (ms ns : List Self) → made cfg es (ns ++ ms) ≡ made cfg (made cfg es ms ++ es) ns ++ made cfg es ms
 unfolding made
@@ -148,49 +187,14 @@ made-app cfg es ms (n ∷ ns) = go (made cfg es ms) (made cfg (made cfg es ms ++
     go : (fs gs hs : List Ev) → hs ≡ gs ++ fs → makes cfg (world cfg (hs ++ es)) n ++ hs ≡ (makes cfg (world cfg (gs ++ (fs ++ es))) n ++ gs) ++ fs
     go fs gs hs e = ap (λ z. makes cfg (world cfg (z ++ es)) n ++ z) e ∙ ap (λ z. makes cfg (world cfg z) n ++ (gs ++ fs)) (append-assoc gs fs es) ∙ sym (append-assoc (makes cfg (world cfg (gs ++ (fs ++ es))) n) gs fs)
 
-pub reach-reach : (cfg : Settings) (m n : ℕ) (es fs gs : List Ev) → Reach cfg m es fs → Reach cfg n fs gs → Reach cfg (m + n) es gs
-reach-reach cfg m n es fs gs a b = record {
-  by = b .by ++ a .by;
-  is = ap (λ z. z ++ es) all ∙ append-assoc (made cfg fs (b .by)) (made cfg es (a .by)) es ∙ ap (λ z. made cfg fs (b .by) ++ z) (a .is) ∙ b .is;
-  count = omega (arith, ap length all, length-append (made cfg fs (b .by)) (made cfg es (a .by)), a .count, b .count);
+pub reach-reach : (cfg : Settings) (m n : ℕ) (es : List Ev) (ms : List Self) (fs : List Ev) (ns : List Self) (gs : List Ev) → Reach cfg m es ms fs → Reach cfg n fs ns gs → Reach cfg (m + n) es (ns ++ ms) gs
+reach-reach cfg m n es ms fs ns gs a b = record {
+  is = ap (λ z. z ++ es) all ∙ append-assoc (made cfg fs ns) (made cfg es ms) es ∙ ap (λ z. made cfg fs ns ++ z) (a .is) ∙ b .is;
+  count = omega (arith, ap length all, length-append (made cfg fs ns) (made cfg es ms), a .count, b .count);
 }
   where
-    all : made cfg es (b .by ++ a .by) ≡ made cfg fs (b .by) ++ made cfg es (a .by)
-    all = made-app cfg es (a .by) (b .by) ∙ ap (λ z. made cfg z (b .by) ++ made cfg es (a .by)) (a .is)
+    all : made cfg es (ns ++ ms) ≡ made cfg fs ns ++ made cfg es ms
+    all = made-app cfg es ms ns ∙ ap (λ z. made cfg z ns ++ made cfg es ms) (a .is)
 
-pub reach-le : (cfg : Settings) (m n : ℕ) (es gs : List Ev) → m ≤ n → Reach cfg m es gs → Reach cfg n es gs
-reach-le cfg m n es gs l r = record { by = r .by; is = r .is; count = omega (arith, r .count) }
-
--- each of them, and what it makes
-pub clock-reach : (cfg : Settings) (es : List Ev) (o p : Who) (c d : Conn) → Pair cfg es o p c d → speaks c (c .phase) ≡ true → Reach cfg 1 es (Due o (c .mine) ∷ es)
-clock-reach cfg es o p c d u e = reach-one cfg es (Clock o (c .mine)) (Due o (c .mine) ∷ []) (ap (onClock o) (finds cfg es o p c d u) ∙ cond-true _ _ _ e)
-
-pub take-reach : (cfg : Settings) (es : List Ev) (o : Who) (t k : ℕ) → Reach cfg 1 es (Takes o t k ∷ es)
-take-reach cfg es o t k = reach-one cfg es (Take o t k) (Takes o t k ∷ []) refl
-
--- c, as it is after it heard q, and what it says to that
-module _ (cfg : Settings) (es : List Ev) (o p : Who) (c d : Conn) (u : Pair cfg (Hears o 0 0 ∷ es) o p c d) (q : Packet) (qs : List Packet) (come : comingTo o (world cfg es) ≡ q ∷ qs) (from : q .from ≡ d .mine) (to : q .to ≡ c .mine) where
-  hearing : (fs : List Ev) → onHearing cfg o q (There c) ≡ fs → Reach cfg (length (fs ++ (Hears o 0 0 ∷ []))) es ((fs ++ (Hears o 0 0 ∷ [])) ++ es)
-  unfolding onNth world
-  hearing fs e = reach-one cfg es (Brings o 0 0) (fs ++ (Hears o 0 0 ∷ [])) (ap (λ z. z ++ (Hears o 0 0 ∷ [])) (ap (λ z. onNth cfg o 0 z (end o (step cfg (Hears o 0 0) (world cfg es)) .conns)) come ∙
-      ap (onHearing cfg o q) (ap (λ z. byTag z (end o (step cfg (Hears o 0 0) (world cfg es)) .conns)) to ∙ finds cfg (Hears o 0 0 ∷ es) o p c d u) ∙ e))
-
-  for-me : (not (isAsked (c .phase)) && eqb (c .theirs) (q .from)) ≡ true
-  for-me = and-from _ _ (ap not (u .live-c .settled)) (eq-eqb _ _ (u .one .0 ∙ sym from))
-
-  pub answer-reach : wantsAnswer q ≡ true → Reach cfg 2 es (Sends o (c .mine) (c .upto) (cfg .size) ∷ Hears o 0 0 ∷ es)
-  answer-reach w = hearing (Sends o (c .mine) (c .upto) (cfg .size) ∷ []) (cond-true _ _ _ for-me ∙ cond-true _ _ _ w)
-
-  pub yes-reach : q .kind ≡ Yes → c .phase ≡ Open → Reach cfg 2 es (Due o (c .mine) ∷ Hears o 0 0 ∷ es)
-  yes-reach k h = hearing (Due o (c .mine) ∷ []) (cond-true _ _ _ for-me ∙ cond-false _ _ _ (silent (q .kind) k) ∙ cond-true _ _ _ (and-from _ _ (ap isYes k) (ap isOpen h)))
-    where
-      silent : (z : Kind) → z ≡ Yes → (isText z && (q .last || hasBytes (q .text))) ≡ false
-      silent z e = rw e refl
-
-  -- whatever it says, all stays as it is
-  pub some-reach : q .kind ≡ Text → c .phase ≡ Open → (gs : List Ev) × Reach cfg 2 es gs × Pair cfg gs o p c d
-  some-reach k h = ⊎-elim (λ w. (Sends o (c .mine) (c .upto) (cfg .size) ∷ Hears o 0 0 ∷ es, answer-reach w, by-answer cfg (Hears o 0 0 ∷ es) o p c d u (c .upto) (cfg .size) h .0))
-      (λ w. (Hears o 0 0 ∷ es, reach-le cfg 1 2 es _ (omega arith) (hearing [] (cond-true _ _ _ for-me ∙ cond-false _ _ _ w ∙ cond-false _ _ _ (silent (q .kind) k))), u)) (cases-bool (wantsAnswer q))
-    where
-      silent : (z : Kind) → z ≡ Text → (isYes z && isOpen (c .phase)) ≡ false
-      silent z e = rw e refl
+pub reach-le : (cfg : Settings) (m n : ℕ) (es : List Ev) (ms : List Self) (gs : List Ev) → m ≤ n → Reach cfg m es ms gs → Reach cfg n es ms gs
+reach-le cfg m n es ms gs l r = record { is = r .is; count = omega (arith, r .count) }

@@ -1,30 +1,29 @@
--- It never comes to a stand by what ends do by themselves: each round brings them into step, or a byte, or the end. Assumes nothing.
+-- It never comes to a stand by what ends do by themselves: each round opens one that is half, or brings them into step, or a byte, or the end. Assumes nothing.
 use mathlib.Core.Path.{_≡_, refl, sym, ap, subst, _∙_}
-use mathlib.Core.Bool.{true, false}
+use mathlib.Core.Bool.{true, false, _&&_}
 use mathlib.Core.Logic.{⊎-elim}
-use mathlib.Core.List.{List, _∷_, _++_}
-use Prim.Native.Nat.{ℕ, zero, suc, _+_, _*_, _<_, _≤_, _-_}
+use mathlib.Core.List.{List, [], _∷_, _++_}
+use Prim.Native.Nat.{ℕ, _+_, _<_, _≤_, _-_}
 use native.Mathlib.Omega.{arith}
-use lib.Dec.{T, ltb}
-use lib.ListN.{drop, length}
+use lib.Dec.{T, eqb}
+use lib.ListN.{length, length-drop}
 use Rattle.std.proofs.shelf.Ways.{tells}
-use Rattle.std.proofs.shelf.Tests.{and-parts, or-cases, or-left, or-right, eq-eqb, ltb-true, ltb-false, not-true, cases-bool, cases-lt}
-use Rattle.hold.specs.Packet.{Settings, Packet, larger, lower, bare, Yes}
+use Rattle.std.proofs.shelf.Tests.{and-parts, or-cases, or-left, or-right, eq-eqb, ltb-true, not-true, cases-lt, cases-eq, ne-eqb}
+use Rattle.hold.specs.Packet.{Settings, Packet, larger, lower, bare, Yes, Text}
 use Rattle.hold.specs.Conn.{Conn, Phase, Asked, Half, Open, Gone, Last, openWith, takes, hears, says, due, dueText}
 use Rattle.hold.specs.World.{Who, Ev, Due, Takes, Sends, Hears, end, other, comingTo, isOpen, world}
-use Rattle.hold.specs.Promise.{At, One, lives}
+use Rattle.hold.specs.Promise.{At, lives}
 use Rattle.hold.specs.Code.{owes, wantsAnswer, hasBytes}
-use Rattle.hold.specs.Self.{Self, speaks, made, NoStandSelf}
+use Rattle.hold.specs.Self.{Self, Clock, Brings, Take, speaks, makes, made, missing}
+use Rattle.hold.specs.Drive.{Both, roundMoves, left, Nearer, RoundFalls}
 use Rattle.hold.specs.Live.{Heard}
 use Rattle.hold.specs.Rules.{isHalf}
 use Rattle.hold.proofs.Bricks.{false-true}
-use Rattle.hold.proofs.Table.{one-tag}
 use Rattle.hold.proofs.Truth.{FactsOf, front-length}
 use Rattle.hold.proofs.Carry.{hears-due, first-byte, larger-one, last-due}
-use Rattle.hold.proofs.Inv.{inv, apart-at}
-use Rattle.hold.proofs.Live.{both-half, drop-length, front-all, missing}
-use Rattle.hold.proofs.Rounds.{taken-all}
-use Rattle.hold.proofs.SelfMoves.{opp, Alive, Pair, swap, pair-facts, by-clock, by-answer, by-take, by-text, by-yes, Reach, reach-none, reach-reach, reach-le, clock-reach, take-reach, answer-reach, yes-reach, some-reach}
+use Rattle.hold.proofs.Inv.{inv}
+use Rattle.hold.proofs.Live.{both-half, front-all}
+use Rattle.hold.proofs.SelfMoves.{opp, Alive, Pair, swap, pair-facts, by-clock, by-answer, by-take, by-text, by-yes, clock-makes, answer-makes, yes-makes, some-makes, Reach, reach-none, reach-more, reach-le}
 
 -- the due text of one that owes something is answered
 bytes-wanted : (cfg : Settings) (d : Conn) → d .upto < length (d .given) → wantsAnswer (due cfg d) ≡ true
@@ -40,211 +39,189 @@ due-wanted cfg d l w = ⊎-elim (λ h. bytes-wanted cfg d (ltb-true _ _ h)) (λ 
 larger-right : (a b : ℕ) → b ≤ larger a b
 larger-right a b = grind (arith, tells)
 
--- what a round brings: afterwards d knows all that c has
-pub record Round (cfg : Settings) (n : ℕ) (es : List Ev) (o p : Who) (c d : Conn) : Type 0 where
+-- those that are one and live, as the moves want them
+alive : (h : Phase) → T (lives h) → Alive h
+alive Asked t = absurd t
+alive Half t = record { stays = refl; settled = refl }
+alive Open t = record { stays = refl; settled = refl }
+alive Gone t = absurd t
+
+still-lives : (h : Phase) → Alive h → T (lives h)
+still-lives Asked a = false-true _ (a .settled) refl
+still-lives Half a = tt
+still-lives Open a = tt
+still-lives Gone a = false-true _ (a .stays) refl
+
+pub pair-of : (cfg : Settings) (es : List Ev) (o : Who) (c d : Conn) → Both cfg es o c d → Pair cfg es o (other o) c d
+pair-of cfg es o c d b = record { ends = opp o; at-c = b .at-c; at-d = b .at-d; live-c = alive _ (b .live-c); live-d = alive _ (b .live-d); one = b .one }
+
+pub both-of : (cfg : Settings) (es : List Ev) (o : Who) (c d : Conn) → Pair cfg es o (other o) c d → Both cfg es o c d
+both-of cfg es o c d u = record { at-c = u .at-c; at-d = u .at-d; live-c = still-lives _ (u .live-c); live-d = still-lives _ (u .live-d); one = u .one }
+
+-- the rounds that are wanted
+left-silent : (c d : Conn) → speaks d (d .phase) ≡ false → left c d ≡ 0
+left-silent c d w = grind (arith, tells)
+
+pub left-some : (c d : Conn) → speaks d (d .phase) ≡ true → missing c d + 1 ≤ left c d
+left-some c d w = grind (arith, tells)
+
+left-more : (c d : Conn) → speaks d (d .phase) ≡ true → (isOpen (d .phase) && eqb (d .upto) (length (c .got))) ≡ false → left c d ≡ missing c d + 2
+left-more c d w e = grind (arith, tells)
+
+pub left-most : (c d : Conn) → left c d ≤ missing c d + 2
+left-most c d = grind (arith, tells)
+
+left-step : (c d : Conn) → isOpen (d .phase) ≡ true → d .upto ≡ length (c .got) → left c d ≤ missing c d + 1
+left-step c d h e = grind (arith, tells)
+
+-- these moves are a round, and lead so far
+pub record Round (cfg : Settings) (es : List Ev) (ms : List Self) (o : Who) (c d : Conn) : Type 0 where
   pub after : List Ev
-  pub reach : Reach cfg n es after
-  pub c′ : Conn
-  pub d′ : Conn
-  pub pair : Pair cfg after o p c′ d′
-  pub open-d : d′ .phase ≡ Open
-  pub mine : c′ .mine ≡ c .mine
-  pub given : d′ .given ≡ d .given
-  pub closed : d′ .closed ≡ d .closed
-  pub in-step : d′ .upto ≡ length (c′ .got)
-  pub longer : length (c .got) ≤ length (c′ .got)
-  pub brings : d .upto ≡ length (c .got) → length (c .got) < length (d .given) → length (c .got) < length (c′ .got)
-  pub ends-come : d .closed ≡ true → d .all ≡ false → d .upto ≡ length (d .given) → (q : ℕ) × (c′ .end ≡ Last.At q)
+  pub reach : Reach cfg 6 es ms after
+  pub nearer : Nearer cfg after o c d
 
-module _ (cfg : Settings) (pos : 0 < cfg .room) (es : List Ev) (o p : Who) (c d : Conn) (u : Pair cfg es o p c d) (open-d : d .phase ≡ Open) (w : owes d ≡ true) where
-  c₁ : Conn
-  c₁ = takes (length (c .got)) c
+takes-free : (room k : ℕ) (c : Conn) → 0 < room → length (c .got) < c .taken + k + room → length (c .got) < takes k c .taken + room
+takes-free room k c pos free = grind (arith, tells)
 
+-- the last move of a round: d hears a text of c₂, which c is by then, and is open and in step
+module _ (cfg : Settings) (es es₄ : List Ev) (ms : List Self) (o : Who) (c d c₂ : Conn) (mine : c₂ .mine ≡ c .mine) (q : Packet) (kind : q .kind ≡ Text) (from : q .from ≡ c₂ .mine) (to : c₂ .theirs ≡ q .to) (upto : q .upto ≡ length (c₂ .got)) where
+  d₂ : Conn
+  d₂ = hears cfg q (openWith (q .from) d)
+
+  in-step : (gs : List Ev) → Pair cfg gs o (other o) c₂ d₂ → d₂ .upto ≡ length (c₂ .got)
+  unfolding d₂
+  in-step gs x = omega (arith, upto, pair-facts cfg gs (other o) o d₂ c₂ (swap cfg gs o (other o) c₂ d₂ x) .came, larger-right (d .upto) (q .upto))
+
+  heard-back : ((gs : List Ev) → Pair cfg gs o (other o) c₂ d₂ → d₂ .upto ≡ length (c₂ .got) → left c₂ d₂ < left c d) →
+      Pair cfg es₄ (other o) o d c₂ → Reach cfg 4 es ms es₄ → (qs : List Packet) → comingTo (other o) (world cfg es₄) ≡ q ∷ qs → Round cfg es (Brings (other o) 0 0 ∷ ms) o c d
+  unfolding d₂
+  heard-back fewer v r qs come = go (some-makes cfg es₄ (other o) o d₂ c₂ (by-text cfg es₄ (other o) o d c₂ v q qs come from (sym to ∙ v .one .1) kind) q qs come from (sym to ∙ v .one .1) kind refl)
+    where
+      go : (fs : List Ev) × (makes cfg (world cfg es₄) (Brings (other o) 0 0) ≡ fs) × (length fs ≤ 2) × Pair cfg (fs ++ es₄) (other o) o d₂ c₂ → Round cfg es (Brings (other o) 0 0 ∷ ms) o c d
+      go (fs, m, n, x) = let y = swap cfg (fs ++ es₄) (other o) o d₂ c₂ x in record {
+        after = fs ++ es₄;
+        reach = reach-le cfg (length fs + 4) 6 es _ _ (omega (arith, n)) (reach-more cfg 4 es _ es₄ (Brings (other o) 0 0) fs m r);
+        nearer = record { c′ = c₂; d′ = d₂; both = both-of cfg (fs ++ es₄) o c₂ d₂ y; open-d = refl; mine-c = mine; mine-d = refl; given = refl; closed = refl; fewer = fewer (fs ++ es₄) y (in-step (fs ++ es₄) y) };
+      }
+
+-- whether d is half or open, c's user takes first, and then d's clock says something
+module _ (cfg : Settings) (es : List Ev) (o : Who) (c d : Conn) (u : Pair cfg es o (other o) c d) (w : speaks d (d .phase) ≡ true) (k : ℕ) where
   es₁ : List Ev
-  es₁ = Takes o (c .mine) (length (c .got)) ∷ es
+  es₁ = Takes o (c .mine) k ∷ es
 
   es₂ : List Ev
-  es₂ = Due p (d .mine) ∷ es₁
+  es₂ = Due (other o) (d .mine) ∷ es₁
 
-  u₁ : Pair cfg es₁ p o d c₁
-  unfolding c₁ es₁
-  u₁ = swap cfg es₁ o p c₁ d (by-take cfg es o p c d u (length (c .got)))
+  u₁ : Pair cfg es₁ (other o) o d (takes k c)
+  unfolding es₁
+  u₁ = swap cfg es₁ o (other o) (takes k c) d (by-take cfg es o (other o) c d u k)
 
-  wanted : wantsAnswer (due cfg d) ≡ true
-  wanted = due-wanted cfg d (omega (arith, pair-facts cfg es p o d c (swap cfg es o p c d u) .came, front-length _ _ (pair-facts cfg es o p c d u .front))) w
+  begun : Reach cfg 2 es (Clock (other o) (d .mine) ∷ Take o (c .mine) k ∷ []) es₂
+  unfolding es₁ es₂
+  begun = reach-more cfg 1 es _ es₁ (Clock (other o) (d .mine)) _ (clock-makes cfg es₁ (other o) o d (takes k c) u₁ w) (reach-more cfg 0 es [] es (Take o (c .mine) k) _ refl (reach-none cfg es))
 
-  speaking : (h : Phase) → h ≡ Open → speaks d h ≡ true
-  speaking h e = rw e w
+  -- d is half, and says yes
+  module _ (open-c : c .phase ≡ Open) (half-d : d .phase ≡ Half) where
+    half-fewer : (d₁ : Conn) → Heard cfg (takes k c) d d₁ → d₁ .upto ≡ length (c .got) → left (takes k c) d₁ < left c d
+    half-fewer d₁ h e = omega (arith, left-step (takes k c) d₁ (ap isOpen (h .phase)) e, left-more c d w (rw half-d refl), ap length (h .given), length-drop (length (c .got)) (d .given), length-drop (length (c .got)) (d₁ .given))
 
-  -- c heard and answered; d hears the answer
-  answered : (c₂ : Conn) → Heard cfg d c₁ c₂ → Reach cfg 4 es (Sends o (c₂ .mine) (c₂ .upto) (cfg .size) ∷ Hears o 0 0 ∷ es₂) →
-      Pair cfg (Sends o (c₂ .mine) (c₂ .upto) (cfg .size) ∷ Hears o 0 0 ∷ es₂) p o d c₂ → (qs : List Packet) → comingTo p (world cfg (Sends o (c₂ .mine) (c₂ .upto) (cfg .size) ∷ Hears o 0 0 ∷ es₂)) ≡ says cfg (c₂ .upto) (cfg .size) c₂ ∷ qs → Round cfg 6 es o p c d
-  unfolding c₁
-  answered c₂ h r v qs come = go (some-reach cfg es₄ p o d₂ c₂ (by-text cfg es₄ p o d c₂ v (says cfg (c₂ .upto) (cfg .size) c₂) qs come refl (v .one .1) refl) (says cfg (c₂ .upto) (cfg .size) c₂) qs come refl (v .one .1) refl refl)
-    where
-      es₄ : List Ev
-      es₄ = Sends o (c₂ .mine) (c₂ .upto) (cfg .size) ∷ Hears o 0 0 ∷ es₂
+    half-round : Round cfg es (roundMoves o (c .mine) (d .mine) k) o c d
+    unfolding es₁ es₂ d₂
+    half-round = let (v, come) = by-clock cfg es₁ (other o) o d (takes k c) u₁ Half half-d in
+        let y = by-yes cfg es₂ o (other o) (takes k c) d (swap cfg es₂ (other o) o d (takes k c) v) (bare Yes (d .mine) (d .theirs)) (comingTo o (world cfg es₁)) come refl (u .one .1) refl in
+        let (z, come′) = by-clock cfg (Hears o 0 0 ∷ es₂) o (other o) (takes k c) d y Open open-c in
+        heard-back cfg es (Due o (c .mine) ∷ Hears o 0 0 ∷ es₂) _ o c d (takes k c) refl (due cfg (takes k c)) refl refl refl refl
+        (λ gs x e. half-fewer (hears cfg (due cfg (takes k c)) (openWith (c .mine) d)) (hears-due cfg (takes k c) d) e)
+        (swap cfg _ o (other o) (takes k c) d z)
+        (reach-more cfg 2 es _ es₂ (Brings o 0 0) _ (yes-makes cfg es₂ o (other o) (takes k c) d y (bare Yes (d .mine) (d .theirs)) (comingTo o (world cfg es₁)) come refl (u .one .1) refl open-c) begun)
+        (comingTo (other o) (world cfg (Hears o 0 0 ∷ es₂))) come′
 
-      d₂ : Conn
-      d₂ = hears cfg (says cfg (c₂ .upto) (cfg .size) c₂) (openWith (c₂ .mine) d)
+  -- d is open, and says its due text; it owes something
+  module _ (pos : 0 < cfg .room) (free : length (c .got) < c .taken + k + cfg .room) (open-d : d .phase ≡ Open) where
+    owing : owes d ≡ true
+    owing = go (d .phase) open-d w
+      where
+        go : (h : Phase) → h ≡ Open → speaks d h ≡ true → owes d ≡ true
+        go h e s = rw e at s
 
-      go : (gs : List Ev) × Reach cfg 2 es₄ gs × Pair cfg gs p o d₂ c₂ → Round cfg 6 es o p c d
-      go (gs, s, x) = record {
-        after = gs;
-        reach = reach-reach cfg 4 2 es es₄ gs r s;
-        c′ = c₂;
-        d′ = d₂;
-        pair = swap cfg gs p o d₂ c₂ x;
-        open-d = refl;
-        mine = h .mine;
-        given = refl;
-        closed = refl;
-        in-step = omega (arith, pair-facts cfg gs p o d₂ c₂ x .came, larger-right (d .upto) (length (c₂ .got)));
-        longer = h .longer;
-        brings = λ e l. h .brings e l (omega (arith, taken-all c));
-        ends-come = h .ends-come;
-      }
+    got : length (c .got) ≤ length (d .given)
+    got = front-length _ _ (pair-facts cfg es o (other o) c d u .front)
 
-  heard : (c₂ : Conn) → Heard cfg d c₁ c₂ → Pair cfg (Hears o 0 0 ∷ es₂) o p c₂ d → (qs : List Packet) → comingTo o (world cfg es₂) ≡ due cfg d ∷ qs → Round cfg 6 es o p c d
-  unfolding es₁ es₂ c₁
-  heard c₂ h v qs come = let (x, come′) = by-answer cfg (Hears o 0 0 ∷ es₂) o p c₂ d v (c₂ .upto) (cfg .size) (h .phase) in
-      answered c₂ h (reach-reach cfg 2 2 es es₂ _ (reach-reach cfg 1 1 es es₁ es₂ (take-reach cfg es o _ _) (clock-reach cfg es₁ p o d c₁ u₁ (speaking (d .phase) open-d)))
-      (answer-reach cfg es₂ o p c₂ d v (due cfg d) qs come refl (v .one .1) wanted)) (swap cfg _ o p c₂ d x) _ come′
+    wanted : wantsAnswer (due cfg d) ≡ true
+    wanted = due-wanted cfg d (omega (arith, pair-facts cfg es (other o) o d c (swap cfg es o (other o) c d u) .came, got)) owing
 
-  pub round : Round cfg 6 es o p c d
-  unfolding es₁ es₂ c₁
-  round = let (v, come) = by-clock cfg es₁ p o d c₁ u₁ Open open-d in
-      heard _ (hears-due cfg d c₁) (by-text cfg es₂ o p c₁ d (swap cfg es₂ p o d c₁ v) (due cfg d) (comingTo o (world cfg es₁)) come refl (v .one .0) refl) (comingTo o (world cfg es₁)) come
+    -- c heard it
+    module _ (c₂ : Conn) (h : Heard cfg d (takes k c) c₂) where
+      q : Packet
+      q = says cfg (c₂ .upto) (cfg .size) c₂
 
--- all was brought over, with so many events
-pub record Done (cfg : Settings) (n : ℕ) (es : List Ev) (o : Who) (c d : Conn) : Type 0 where
-  pub after : List Ev
-  pub reach : Reach cfg n es after
-  pub c′ : Conn
-  pub at-c : At o (world cfg after) c′
-  pub mine : c′ .mine ≡ c .mine
-  pub got : c′ .got ≡ d .given
-  pub ended : d .closed ≡ true → c′ .ended ≡ true
+      d₃ : Conn
+      d₃ = hears cfg q (openWith (c₂ .mine) d)
 
--- who owes nothing has brought over all
-silent-done : (cfg : Settings) (n : ℕ) (es : List Ev) (o p : Who) (c d : Conn) → Pair cfg es o p c d → d .phase ≡ Open → owes d ≡ false → Done cfg n es o c d
-silent-done cfg n es o p c d u h w = record { after = es; reach = reach-le cfg 0 n es es (omega arith) (reach-none cfg es); c′ = c; at-c = u .at-c; mine = refl; got = front-all _ _ (fc .front) (omega (arith, fd .came, ltb-false _ _ none)); ended = λ z. fd .all-came (said z) }
+      -- all was got, and only the end is wanted
+      module _ (gs : List Ev) (x : Pair cfg gs o (other o) c₂ d₃) (s : d₃ .upto ≡ length (c₂ .got)) (e : d .upto ≡ length (c .got)) (l : length (d .given) ≤ length (c .got)) where
+        f : FactsOf cfg c₂ d₃
+        f = pair-facts cfg gs o (other o) c₂ d₃ x
+
+        all : c₂ .got ≡ d₃ .given
+        unfolding q d₃
+        all = front-all _ _ (f .front) (omega (arith, h .longer, l))
+
+        closed : (d .closed ≡ true) × (d .all ≡ false)
+        closed = let o = owing in let g = got in (grind (arith, tells), grind (arith, tells))
+
+        ended : c₂ .ended ≡ true
+        ended = go (h .ends-come (closed .0) (closed .1) (omega (arith, e, l, got)))
+          where
+            go : (p : ℕ) × (c₂ .end ≡ Last.At p) → c₂ .ended ≡ true
+            go (p, i) = f .told p i ∙ eq-eqb _ _ (f .end-true p i .0 ∙ ap length (sym all))
+
+        told : owes d₃ ≡ false
+        unfolding q d₃
+        told = let a = ended in let n = ap length all in grind (arith, tells)
+
+      fewer : (gs : List Ev) → Pair cfg gs o (other o) c₂ d₃ → d₃ .upto ≡ length (c₂ .got) → left c₂ d₃ < left c d
+      unfolding q d₃
+      fewer gs x s = ⊎-elim stepped (λ n. omega (arith, at-most, left-more c d w (rw open-d (ne-eqb _ _ n)), h .longer, before, after)) (cases-eq (d .upto) (length (c .got)))
+        where
+          before : missing c d ≡ length (d .given) - length (c .got)
+          before = length-drop (length (c .got)) (d .given)
+
+          after : missing c₂ d₃ ≡ length (d .given) - length (c₂ .got)
+          after = length-drop (length (c₂ .got)) (d .given)
+
+          at-most : left c₂ d₃ ≤ missing c₂ d₃ + 1
+          at-most = left-step c₂ d₃ refl s
+
+          stepped : d .upto ≡ length (c .got) → left c₂ d₃ < left c d
+          stepped e = ⊎-elim (λ l. omega (arith, at-most, left-some c d w, h .brings e l (takes-free (cfg .room) k c pos free), before, after))
+              (λ l. omega (arith, left-silent c₂ d₃ (told gs x s e l), left-some c d w)) (cases-lt (length (c .got)) (length (d .given)))
+
+      answered : Pair cfg (Hears o 0 0 ∷ es₂) o (other o) c₂ d → (qs : List Packet) → comingTo o (world cfg es₂) ≡ due cfg d ∷ qs → Round cfg es (roundMoves o (c .mine) (d .mine) k) o c d
+      unfolding q d₂ d₃
+      answered v qs come = let (x, come′) = by-answer cfg (Hears o 0 0 ∷ es₂) o (other o) c₂ d v (c₂ .upto) (cfg .size) (h .phase) in
+          heard-back cfg es (Sends o (c₂ .mine) (c₂ .upto) (cfg .size) ∷ Hears o 0 0 ∷ es₂) _ o c d c₂ (h .mine) q refl refl refl refl fewer (swap cfg _ o (other o) c₂ d x)
+          (reach-more cfg 2 es _ es₂ (Brings o 0 0) _ (answer-makes cfg es₂ o (other o) c₂ d v (due cfg d) qs come refl (v .one .1) wanted) begun) _ come′
+
+    open-round : Round cfg es (roundMoves o (c .mine) (d .mine) k) o c d
+    unfolding es₂
+    open-round = let (v, come) = by-clock cfg es₁ (other o) o d (takes k c) u₁ Open open-d in
+        answered _ (hears-due cfg d (takes k c)) (by-text cfg es₂ o (other o) (takes k c) d (swap cfg es₂ (other o) o d (takes k c) v) (due cfg d) (comingTo o (world cfg es₁)) come refl (v .one .0) refl) (comingTo o (world cfg es₁)) come
+
+pub round-falls : RoundFalls
+round-falls cfg pos es o c d b w k free = told (go (c .phase) (d .phase) refl refl (b .live-c) (b .live-d))
   where
-    fc : FactsOf cfg c d
-    fc = pair-facts cfg es o p c d u
+    u : Pair cfg es o (other o) c d
+    u = pair-of cfg es o c d b
 
-    fd : FactsOf cfg d c
-    fd = pair-facts cfg es p o d c (swap cfg es o p c d u)
+    go : (h j : Phase) → c .phase ≡ h → d .phase ≡ j → T (lives h) → T (lives j) → Round cfg es (roundMoves o (c .mine) (d .mine) k) o c d
+    go h Open e f _ _ = open-round cfg es o c d u w k pos free f
+    go Open Half e f _ _ = half-round cfg es o c d u w k e f
+    go Half Half e f _ _ = both-half cfg (world cfg es) (inv cfg es) o c d (b .at-c) (b .at-d) (b .one) (ap isHalf e) (ap isHalf f)
+    go Asked Half e f t _ = absurd t
+    go Gone Half e f t _ = absurd t
+    go h Asked e f _ t = absurd t
+    go h Gone e f _ t = absurd t
 
-    none : ltb (d .upto) (length (d .given)) ≡ false
-    none = let k : isOpen (d .phase) ≡ true = ap isOpen h in grind arith
-
-    said : d .closed ≡ true → d .all ≡ true
-    said z = let k : isOpen (d .phase) ≡ true = ap isOpen h in grind arith
-
-then : (cfg : Settings) (m n : ℕ) (es : List Ev) (o p : Who) (c d : Conn) (r : Round cfg m es o p c d) → Done cfg n (r .after) o (r .c′) (r .d′) → Done cfg (m + n) es o c d
-then cfg m n es o p c d r s = record { after = s .after; reach = reach-reach cfg m n es (r .after) (s .after) (r .reach) (s .reach); c′ = s .c′; at-c = s .at-c; mine = s .mine ∙ r .mine; got = s .got ∙ r .given; ended = λ z. s .ended (r .closed ∙ z) }
-
-done-le : (cfg : Settings) (m n : ℕ) (es : List Ev) (o : Who) (c d : Conn) → m ≤ n → Done cfg m es o c d → Done cfg n es o c d
-done-le cfg m n es o c d l s = record { after = s .after; reach = reach-le cfg m n es (s .after) l (s .reach); c′ = s .c′; at-c = s .at-c; mine = s .mine; got = s .got; ended = s .ended }
-
--- a last round, for the end
-finish : (cfg : Settings) (es : List Ev) (o p : Who) (c d : Conn) → d .upto ≡ length (d .given) → length (d .given) ≤ length (c .got) → owes d ≡ true → Round cfg 6 es o p c d → Done cfg 6 es o c d
-finish cfg es o p c d e l w r = record { after = r .after; reach = r .reach; c′ = r .c′; at-c = r .pair .at-c; mine = r .mine; got = all ∙ r .given; ended = λ z. told (r .ends-come z open-end e) }
-  where
-    f : FactsOf cfg (r .c′) (r .d′)
-    f = pair-facts cfg (r .after) o p (r .c′) (r .d′) (r .pair)
-
-    all : r .c′ .got ≡ r .d′ .given
-    all = front-all _ _ (f .front) (omega (arith, ap length (r .given), r .longer))
-
-    open-end : d .all ≡ false
-    open-end = grind (arith, tells)
-
-    told : (q : ℕ) × (r .c′ .end ≡ Last.At q) → r .c′ .ended ≡ true
-    told (q, k) = f .told q k ∙ eq-eqb _ _ (f .end-true q k .0 ∙ ap length (sym all))
-
--- in step: each round brings a byte
-rounds : (cfg : Settings) → 0 < cfg .room → (m : ℕ) (es : List Ev) (o p : Who) (c d : Conn) → Pair cfg es o p c d → d .phase ≡ Open → d .upto ≡ length (c .got) → length (d .given) ≤ length (c .got) + m → Done cfg (6 * m + 6) es o c d
-rounds cfg pos zero es o p c d u h s l = ⊎-elim (λ w. finish cfg es o p c d (omega (arith, s, l, front-length _ _ (pair-facts cfg es o p c d u .front))) (omega arith) w (round cfg pos es o p c d u h w)) (silent-done cfg 6 es o p c d u h) (cases-bool (owes d))
-rounds cfg pos (suc m) es o p c d u h s l = ⊎-elim (λ w. go (round cfg pos es o p c d u h w) (λ r k. rounds cfg pos m (r .after) o p (r .c′) (r .d′) (r .pair) (r .open-d) (r .in-step) k)) (silent-done cfg _ es o p c d u h) (cases-bool (owes d))
-  where
-    go : (r : Round cfg 6 es o p c d) → ((x : Round cfg 6 es o p c d) → length (x .d′ .given) ≤ length (x .c′ .got) + m → Done cfg (6 * m + 6) (x .after) o (x .c′) (x .d′)) → Done cfg (6 * suc m + 6) es o c d
-    go r k = done-le cfg (6 + (6 * m + 6)) (6 * suc m + 6) es o c d (omega arith) (then cfg 6 (6 * m + 6) es o p c d r
-        (k r (⊎-elim (λ z. omega (arith, ap length (r .given), r .brings s z)) (λ z. omega (arith, ap length (r .given), r .longer)) (cases-lt (length (c .got)) (length (d .given))))))
-
--- one round to come into step
-all-rounds : (cfg : Settings) → 0 < cfg .room → (m : ℕ) (es : List Ev) (o p : Who) (c d : Conn) → Pair cfg es o p c d → d .phase ≡ Open → length (d .given) ≤ length (c .got) + m → Done cfg (6 * m + 12) es o c d
-all-rounds cfg pos m es o p c d u h l = ⊎-elim (λ w. go (round cfg pos es o p c d u h w)) (silent-done cfg _ es o p c d u h) (cases-bool (owes d))
-  where
-    go : Round cfg 6 es o p c d → Done cfg (6 * m + 12) es o c d
-    go r = done-le cfg (6 + (6 * m + 6)) (6 * m + 12) es o c d (omega arith) (then cfg 6 (6 * m + 6) es o p c d r (rounds cfg pos m (r .after) o p (r .c′) (r .d′) (r .pair) (r .open-d) (r .in-step) (omega (arith, ap length (r .given), r .longer))))
-
--- d is half, c is open: d says yes again, c says at once what is due, d hears it and is open, and in step
-module _ (cfg : Settings) (pos : 0 < cfg .room) (m : ℕ) (es : List Ev) (o p : Who) (c d : Conn) (u : Pair cfg es o p c d) (open-c : c .phase ≡ Open) (half-d : d .phase ≡ Half) (l : length (d .given) ≤ length (c .got) + m) where
-  fs₁ : List Ev
-  fs₁ = Due p (d .mine) ∷ es
-
-  fs₃ : List Ev
-  fs₃ = Due o (c .mine) ∷ Hears o 0 0 ∷ fs₁
-
-  says-yes : (h : Phase) → h ≡ Half → speaks d h ≡ true
-  says-yes h e = rw e refl
-
-  opened : (d₁ : Conn) → Heard cfg c d d₁ → Reach cfg 3 es fs₃ → (gs : List Ev) × Reach cfg 2 fs₃ gs × Pair cfg gs p o d₁ c → Done cfg (6 * m + 12) es o c d
-  opened d₁ h r (gs, s, x) = go (rounds cfg pos m gs o p c d₁ (swap cfg gs p o d₁ c x) (h .phase) (omega (arith, pair-facts cfg gs p o d₁ c x .came, h .upto)) (omega (arith, ap length (h .given), l)))
-    where
-      go : Done cfg (6 * m + 6) gs o c d₁ → Done cfg (6 * m + 12) es o c d
-      go z = record {
-        after = z .after;
-        reach = reach-le cfg (5 + (6 * m + 6)) (6 * m + 12) es (z .after) (omega arith) (reach-reach cfg 5 (6 * m + 6) es gs (z .after) (reach-reach cfg 3 2 es fs₃ gs r s) (z .reach));
-        c′ = z .c′;
-        at-c = z .at-c;
-        mine = z .mine;
-        got = z .got ∙ h .given;
-        ended = λ k. z .ended (h .closed ∙ k);
-      }
-
-  pub half-done : Done cfg (6 * m + 12) es o c d
-  unfolding fs₁ fs₃
-  half-done = let (v, come) = by-clock cfg es p o d c (swap cfg es o p c d u) Half half-d in let q = bare Yes (d .mine) (d .theirs) in let qs = comingTo o (world cfg es) in
-      let y = by-yes cfg fs₁ o p c d (swap cfg fs₁ p o d c v) q qs come refl (u .one .1) refl in
-      let (z, come′) = by-clock cfg (Hears o 0 0 ∷ fs₁) o p c d y Open open-c in let ps = comingTo p (world cfg (Hears o 0 0 ∷ fs₁)) in
-      let t = by-text cfg fs₃ p o d c (swap cfg fs₃ o p c d z) (due cfg c) ps come′ refl (u .one .0) refl in
-      opened (hears cfg (due cfg c) (openWith (c .mine) d)) (hears-due cfg c d)
-      (reach-reach cfg 1 2 es fs₁ fs₃ (clock-reach cfg es p o d c (swap cfg es o p c d u) (says-yes (d .phase) half-d)) (yes-reach cfg fs₁ o p c d y q qs come refl (u .one .1) refl open-c))
-      (some-reach cfg fs₃ p o (hears cfg (due cfg c) (openWith (c .mine) d)) c t (due cfg c) ps come′ refl (u .one .0) refl refl)
-
-module _ (cfg : Settings) (pos : 0 < cfg .room) (es : List Ev) (o : Who) (c d : Conn) (m : At o (world cfg es) c) (n : At (other o) (world cfg es) d) (one : One c d) where
-  alive : (h : Phase) → T (lives h) → Alive h
-  alive Asked t = absurd t
-  alive Half t = record { stays = refl; settled = refl }
-  alive Open t = record { stays = refl; settled = refl }
-  alive Gone t = absurd t
-
-  pair : T (lives (c .phase)) → T (lives (d .phase)) → Pair cfg es o (other o) c d
-  pair s t = record { ends = opp o; at-c = m; at-d = n; live-c = alive _ s; live-d = alive _ t; one = one }
-
-  left : length (d .given) ≤ length (c .got) + missing c d
-  left = drop-length (length (c .got)) (d .given)
-
-  pub all-done : T (lives (c .phase)) → T (lives (d .phase)) → (h k : Phase) → c .phase ≡ h → d .phase ≡ k → T (lives h) → T (lives k) → Done cfg (6 * missing c d + 12) es o c d
-  all-done s t h Open e f _ _ = all-rounds cfg pos (missing c d) es o (other o) c d (pair s t) f left
-  all-done s t Open Half e f _ _ = half-done cfg pos (missing c d) es o (other o) c d (pair s t) e f left
-  all-done s t Half Half e f _ _ = both-half cfg (world cfg es) (inv cfg es) o c d m n one (ap isHalf e) (ap isHalf f)
-  all-done s t Asked Half e f z _ = absurd z
-  all-done s t Gone Half e f z _ = absurd z
-  all-done s t h Asked e f _ z = absurd z
-  all-done s t h Gone e f _ z = absurd z
-
-pub no-stand-self : NoStandSelf
-no-stand-self cfg pos es o c d m n s t one = go (all-done cfg pos es o c d m n one s t (c .phase) (d .phase) refl refl s t)
-  where
-    go : Done cfg (6 * missing c d + 12) es o c d → (ms : List Self) × (length (made cfg es ms) ≤ 6 * missing c d + 12) ×
-        ((x : Conn) → At o (world cfg (made cfg es ms ++ es)) x → x .mine ≡ c .mine → (x .got ≡ d .given) × (d .closed ≡ true → x .ended ≡ true))
-    go r = (
-      r .reach .by,
-      r .reach .count,
-      λ x k q. let e = one-tag _ x (r .c′) (apart-at _ (inv cfg (r .after) .tagged) o) (rw (r .reach .is) at k) (r .at-c) (q ∙ sym (r .mine)) in
-          (ap (λ z. z .got) e ∙ r .got, λ z. ap (λ y. y .ended) e ∙ r .ended z),
-    )
+    told : Round cfg es (roundMoves o (c .mine) (d .mine) k) o c d → (length (made cfg es (roundMoves o (c .mine) (d .mine) k)) ≤ 6) × Nearer cfg (made cfg es (roundMoves o (c .mine) (d .mine) k) ++ es) o c d
+    told r = (r .reach .count, subst (λ z. Nearer cfg z o c d) (sym (r .reach .is)) (r .nearer))

@@ -7,9 +7,9 @@ use mathlib.Core.List.{List, [], _∷_, _++_, List·Memᴰ}
 use Prim.Native.Nat.{ℕ, zero, suc, _+_, _*_, _<_, _≤_, _/_, _%_, _^_}
 use lib.Dec.{eqb, ltb, leb, T}
 use lib.ListN.{length}
-use Rattle.hold.specs.Packet.{Settings, Packet, Kind, Ask, Yes, Text, Bye}
-use Rattle.hold.specs.Conn.{Conn, Phase, says}
-use Rattle.hold.specs.World.{Who, L, R, End, World, Ev, start, Listens, Opens, Due, Gives, Closes, Takes, Sends, Breaks, Forgets, Hears, end, other, comingTo, isIn, isOpen, isAsked, onKind, step, gone, Found, NotThere, There, byTag, byTheirs}
+use Rattle.hold.specs.Packet.{Settings, Packet, Kind, Ask, Yes, Text, Bye, bare}
+use Rattle.hold.specs.Conn.{Conn, Phase, Asked, Half, Gone, new, inPhase, openWith, gives, closes, takes, hears, says}
+use Rattle.hold.specs.World.{Who, L, R, End, World, Ev, start, Listens, Opens, Due, Gives, Closes, Takes, Sends, Breaks, Forgets, Hears, end, other, comingTo, changed, added, isIn, isOpen, isAsked, onKind, step, gone, Found, NotThere, There, byTag, byTheirs, saysIf, dueIf, byeIf}
 use Rattle.hold.specs.Promise.{tags}
 
 -- calls, and what is due, of one end
@@ -109,6 +109,64 @@ tagOf (Sends o t p k) = t
 tagOf (Breaks o t) = t
 tagOf (Forgets o t) = t
 tagOf (Hears o i t) = t
+
+-- what becomes of an end by an event of its own, and what it sends
+abbrev pub doneBy : Ev → End → End
+doneBy (Listens o b) s = record { conns = s .conns; listens = b }
+doneBy (Opens o t) s = cond (eqb t 0) s (added (new Asked t 0) s)
+doneBy (Due o t) s = s
+doneBy (Gives o t bs) s = changed t (gives bs) s
+doneBy (Closes o t) s = changed t closes s
+doneBy (Takes o t k) s = changed t (takes k) s
+doneBy (Sends o t p k) s = s
+doneBy (Breaks o t) s = changed t (inPhase Gone) s
+doneBy (Forgets o t) s = changed t (inPhase Gone) s
+doneBy (Hears o i t) s = s
+
+abbrev pub sentBy : Settings → Ev → End → List Packet
+sentBy cfg (Listens o b) s = []
+sentBy cfg (Opens o t) s = cond (eqb t 0) [] (bare Ask t 0 ∷ [])
+sentBy cfg (Due o t) s = dueIf cfg (byTag t (s .conns))
+sentBy cfg (Gives o t bs) s = []
+sentBy cfg (Closes o t) s = []
+sentBy cfg (Takes o t k) s = []
+sentBy cfg (Sends o t p k) s = saysIf cfg p k (byTag t (s .conns))
+sentBy cfg (Breaks o t) s = byeIf (byTag t (s .conns))
+sentBy cfg (Forgets o t) s = []
+sentBy cfg (Hears o i t) s = []
+
+-- what becomes of an end that hears a packet, and what it sends: the same case analysis as onKind, over an end alone
+pub record Turn : Type 0 where
+  pub now : End
+  pub sent : List Packet
+
+abbrev pub askedBy : Packet → ℕ → Found → End → Turn
+askedBy p t (There c) s = record { now = s; sent = bare Yes (c .mine) (c .theirs) ∷ [] }
+askedBy p t NotThere s = cond (s .listens && not (eqb t 0)) (record { now = added (new Half t (p .from)) s; sent = bare Yes t (p .from) ∷ [] }) (record { now = s; sent = [] })
+
+abbrev pub answeredBy : Packet → Found → End → Turn
+answeredBy p NotThere s = record { now = s; sent = bare Bye (p .to) (p .from) ∷ [] }
+answeredBy p (There c) s = cond (isAsked (c .phase)) (record { now = changed (c .mine) (openWith (p .from)) s; sent = [] })
+    (cond (eqb (c .theirs) (p .from)) (record { now = s; sent = [] }) (record { now = s; sent = bare Bye (p .to) (p .from) ∷ [] }))
+
+abbrev pub toldBy : Settings → Packet → Found → End → Turn
+toldBy cfg p NotThere s = record { now = s; sent = bare Bye (p .to) (p .from) ∷ [] }
+toldBy cfg p (There c) s = cond (not (isAsked (c .phase)) && eqb (c .theirs) (p .from)) (record { now = changed (c .mine) (λ d. hears cfg p (openWith (p .from) d)) s; sent = [] }) (record { now = s; sent = [] })
+
+abbrev pub brokenBy : Packet → Found → End → Turn
+brokenBy p NotThere s = record { now = s; sent = [] }
+brokenBy p (There c) s = cond (not (isAsked (c .phase)) && eqb (c .theirs) (p .from)) (record { now = changed (c .mine) (inPhase Gone) s; sent = [] }) (record { now = s; sent = [] })
+
+abbrev pub heardBy : Settings → Packet → ℕ → Kind → End → Turn
+heardBy cfg p t Ask s = askedBy p t (byTheirs (p .from) (s .conns)) s
+heardBy cfg p t Yes s = answeredBy p (byTag (p .to) (s .conns)) s
+heardBy cfg p t Text s = toldBy cfg p (byTag (p .to) (s .conns)) s
+heardBy cfg p t Bye s = brokenBy p (byTag (p .to) (s .conns)) s
+
+-- a text that goes out because it may begins at or above upto, and is not too long
+abbrev pub sendFits : Settings → ℕ → ℕ → Found → Bool
+sendFits cfg p k NotThere = true
+sendFits cfg p k (There c) = leb (c .upto) p && leb k (cfg .size)
 
 -- had: the connections that their user has, which it opened or was given. fits: whether the code has room for this event; what doesn't fit is refused and changes nothing. most: so many connections always fit.
 pub record Code (cfg : Settings) (most : ℕ) (State : Type 0) (Stands : State → End → Type 0) : Type 0 where

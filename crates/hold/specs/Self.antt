@@ -58,9 +58,13 @@ unfoldable pub made : Settings → List Ev → List Self → List Ev
 made cfg es [] = []
 made cfg es (m ∷ ms) = makes cfg (world cfg (made cfg es ms ++ es)) m ++ made cfg es ms
 
+-- the bytes given and not got
+abbrev pub missing : Conn → Conn → ℕ
+missing c d = length (drop (length (c .got)) (d .given))
+
 -- As long as both live, what ends do by themselves brings over all that was given, and every event that it makes is counted.
 abbrev pub NoStandSelf : Type 0
 NoStandSelf =
     (cfg : Settings) → 0 < cfg .room → (es : List Ev) (o : Who) (c d : Conn) → At o (world cfg es) c → At (other o) (world cfg es) d → T (lives (c .phase)) → T (lives (d .phase)) → One c d →
-    (ms : List Self) × (length (made cfg es ms) ≤ 6 * length (drop (length (c .got)) (d .given)) + 12) ×
+    (ms : List Self) × (length (made cfg es ms) ≤ 6 * missing c d + 12) ×
     ((x : Conn) → At o (world cfg (made cfg es ms ++ es)) x → x .mine ≡ c .mine → (x .got ≡ d .given) × (d .closed ≡ true → x .ended ≡ true))

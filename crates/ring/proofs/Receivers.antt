@@ -1,12 +1,12 @@
 -- What a receiver's steps do to what its ring has of the bytes got and kept.
 use mathlib.Core.Path.{_≡_, refl, sym, ap, subst, _∙_}
-use mathlib.Core.Bool.{Bool, true, false, cond, not, _&&_, _||_}
+use mathlib.Core.Bool.{Bool, true, false, not, _&&_}
 use mathlib.Core.List.{List, [], _∷_, _++_}
-use mathlib.Core.Logic.{_⊎_, inl, inr, ⊎-elim}
-use Prim.Native.Nat.{ℕ, zero, suc, _+_, _-_, _<_, _≤_, _%_, min}
+use mathlib.Core.Logic.{_⊎_, ⊎-elim}
+use Prim.Native.Nat.{ℕ, suc, _+_, _-_, _<_, _≤_, _%_, min}
 use native.Mathlib.Omega.{arith}
 use lib.ListN.{length, getD, set, replicate, take, drop}
-use lib.Dec.{eqb, ltb}
+use lib.Dec.{ltb}
 use Rattle.std.proofs.shelf.Lists.{getD-replicate, length-set, length-append, length-push, getD-set-same, getD-set-other, getD-append-left, getD-append-right, getD-push, append-assoc, append-nil, ext-getD, length-take, length-drop, getD-take, getD-drop, drop-more, drop-all}
 use Rattle.std.proofs.shelf.Tests.{cond-true, and-from, lt-ltb, le-ltb, false≢true, cases-eq, cases-lt}
 use Rattle.hold.specs.Packet.{Piece, has, byteAt}

@@ -1,5 +1,5 @@
 ghost use lib.ListN.{length, take, drop};
-ghost use mathlib.Core.List.{List, [], _∷_, _++_};
+ghost use mathlib.Core.List.{List, [], _++_};
 ghost use mathlib.Core.Path.{_≡_};
 ghost use Prim.Native.Nat.{ℕ, _+_, _-_, _<_, _≤_, min};
 ghost use Rattle.hold.specs.Packet.{Piece};
@@ -59,7 +59,7 @@ impl Receiver {
     }
 
     /// Keeps a byte that came, unless its turn has passed, there is no room for it, or its place is kept already.
-    pub fn keep(mut self, window: u64, place: u64, b: u8) -> Receiver
+    fn keep(mut self, window: u64, place: u64, b: u8) -> Receiver
         requires { ⌜ place < limit ⌝ }
         ensures holds { λ r. ⌜ ((g : List ℕ) (ks : List Piece) → Holds window self g ks → Holds window r g (keepOne (length g) (self .taken + window) place b ks)) ⌝ }
         ensures got { λ r. ⌜ r .got ≡ self .got ⌝ }

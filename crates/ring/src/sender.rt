@@ -53,7 +53,7 @@ impl Sender {
     }
 
     /// One byte more to send.
-    pub fn push(mut self, b: u8) -> Sender
+    fn push(mut self, b: u8) -> Sender
         requires { ⌜ 0 < free (self .given) (self .upto) ⌝ }
         ensures waits { λ r. ⌜ ((g : List ℕ) → Waits self g → Waits r (g ++ b ∷ [])) ⌝ }
         ensures given { λ r. ⌜ r .given ≡ self .given + 1 ⌝ }

@@ -1,5 +1,4 @@
 use mathlib.Core.Path.{refl, _∙_}
-use native.Mathlib.Omega.{arith}
 use Rattle.ring.proofs.Receivers.{kept-none, kept-more, kept-all}
 use Rattle.ring.proofs.receiver.Receiver.keep_all.Needs as need
 

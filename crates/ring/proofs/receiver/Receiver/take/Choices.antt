@@ -1,6 +1,6 @@
 use mathlib.Core.Path.{_≡_}
 use Prim.Native.Nat.{ℕ, _+_, _%_, _<_, _≤_}
-use lib.ListN.{getD, length}
+use lib.ListN.{getD}
 use Rattle.packet.specs.Sizes.{capacity}
 use Rattle.ring.proofs.receiver.Receiver.take.Given as given
 

@@ -1,0 +1,5 @@
+//! One connection of an end: between whom it is, and the bytes that it carries both ways.
+pub mod connection;
+pub mod pairing;
+pub mod phase;
+pub mod stream;

@@ -1,0 +1,6 @@
+use mathlib.Core.Path.{refl}
+use Rattle.endpoint.proofs.Ends.{stands-new}
+use Rattle.endpoint.proofs.Endpoint.new.Needs as need
+
+pub returns : need.returns
+returns c = record { stands = stands-new _ refl (c .new .ensures); settings = refl }

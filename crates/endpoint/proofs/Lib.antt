@@ -1,0 +1,5 @@
+pub mod Ends
+pub mod Users
+pub mod Sayings
+pub mod Hearings
+pub mod Leaving

@@ -1,0 +1,6 @@
+pub mod Refusals
+pub mod Stands
+pub mod Steps
+pub mod Calls
+pub mod Saying
+pub mod Hearing

@@ -1,0 +1,158 @@
+ghost use mathlib.Core.Bool.{false, true};
+ghost use mathlib.Core.List.{[]};
+ghost use mathlib.Core.Path.{_≡_};
+ghost use Prim.Native.Nat.{ℕ};
+ghost use Rattle.hold.specs.Code.{living};
+ghost use Rattle.hold.specs.Promise.{tags};
+ghost use Rattle.hold.specs.World.{End, Listens, Who, end, isIn, start};
+ghost use Rattle.table.specs.Search.{hasRoom, isThere};
+ghost use Rattle.endpoint.specs.Calls.{Broken, Finished, Forgotten, Gave, Opened, Taken};
+ghost use Rattle.endpoint.specs.Stands.{Stands};
+ghost use Rattle.endpoint.specs.Steps.{Steps};
+use crate::Endpoint;
+use crate::Refusal;
+use connection::connection::Connection;
+use connection::phase::Phase;
+use packet::packet::Kind;
+use packet::packet::Packet;
+use packet::settings::Settings;
+use ring::sender::MOST;
+use table::Table;
+use table::Wanted;
+
+impl Endpoint {
+    /// An end with no connection, which takes no asks.
+    pub fn new(settings: Settings) -> Endpoint
+        ensures stands { λ r. ⌜ ((o : Who) → Stands r (end o start)) ⌝ }
+        ensures settings { λ r. ⌜ r .settings ≡ settings ⌝ }
+    {
+        Endpoint {
+            table: Table::new(),
+            listens: false,
+            settings,
+        }
+    }
+
+    /// Whether asks open connections from now on.
+    pub fn listen(&mut self, on: bool)
+        ensures { λ _. ⌜ Steps (now (self .entry)) (now (self .exit)) [] (λ o. Listens o on) ⌝ }
+    {
+        self.listens = on;
+    }
+
+    /// A new connection, with a tag drawn for it, and the ask that goes out.
+    pub fn open(&mut self, tag: u64) -> Result<Packet, Refusal>
+        ensures { λ r. ⌜ Opened (now (self .entry)) (now (self .exit)) tag r ⌝ }
+    {
+        if tag == 0 {
+            return Err(Refusal::ZeroTag);
+        }
+        if !self.table.has_room() {
+            return Err(Refusal::Full);
+        }
+        if self.table.has(tag) {
+            return Err(Refusal::TagThere);
+        }
+        let Some(_) = self.table.add(Connection::new(Phase::Asked, tag, 0)) else {
+            return Err(Refusal::Full);
+        };
+        Ok(Packet::bare(Kind::Ask, tag, 0))
+    }
+
+    /// The user gives no more.
+    pub fn close(&mut self, tag: u64) -> Result<(), Refusal>
+        ensures { λ r. ⌜ Finished (now (self .entry)) (now (self .exit)) tag r ⌝ }
+    {
+        let Some(lane) = self.table.find(Wanted::Tag(tag)) else {
+            return Err(Refusal::NotThere);
+        };
+        let c = self.table.conns[lane];
+        if c.stream.closed {
+            return Err(Refusal::Closed);
+        }
+        self.table.conns[lane] = c.close();
+        Ok(())
+    }
+
+    /// Takes as many of the bytes as have room, and says how many.
+    pub fn give(&mut self, tag: u64, bytes: &[u8]) -> Result<usize, Refusal>
+        ensures { λ r. ⌜ Gave (now (self .entry)) (now (self .exit)) tag (now (bytes .entry)) r ⌝ }
+    {
+        let Some(lane) = self.table.find(Wanted::Tag(tag)) else {
+            return Err(Refusal::NotThere);
+        };
+        let c = self.table.conns[lane];
+        if c.stream.closed {
+            return Err(Refusal::Closed);
+        }
+        if c.stream.sender.given >= MOST {
+            return Err(Refusal::AllGiven);
+        }
+        let (given, n) = c.give(bytes);
+        self.table.conns[lane] = given;
+        Ok(n)
+    }
+
+    /// The user breaks a connection off, and it is forgotten; a bye goes out unless it only asked.
+    pub fn break_off(&mut self, tag: u64) -> Result<Option<Packet>, Refusal>
+        ensures { λ r. ⌜ Broken (now (self .entry)) (now (self .exit)) tag r ⌝ }
+    {
+        let Some(lane) = self.table.find(Wanted::Tag(tag)) else {
+            return Err(Refusal::NotThere);
+        };
+        let c = self.table.conns[lane];
+        self.table.conns[lane] = c.gone();
+        self.table.remove(lane);
+        Ok(c.farewell())
+    }
+
+    /// Moves bytes that were got and not taken to the front of `out`, and says how many. What is left of a connection that is gone can be taken until it is forgotten.
+    pub fn take(&mut self, tag: u64, out: &mut [u8]) -> Result<usize, Refusal>
+        ensures { λ r. ⌜ Taken (now (self .entry)) (now (self .exit)) tag (now (out .entry)) (now (out .exit)) r ⌝ }
+    {
+        if let Some(lane) = self.table.find(Wanted::Tag(tag)) {
+            let (taken, n) = self.table.conns[lane].take(out);
+            self.table.conns[lane] = taken;
+            return Ok(n);
+        }
+        if let Some(lane) = self.table.find(Wanted::Gone(tag)) {
+            let (drained, n) = self.table.conns[lane].take(out);
+            self.table.conns[lane] = drained;
+            return Ok(n);
+        }
+        Err(Refusal::NotThere)
+    }
+
+    /// Forgets a connection, whether it lives or is gone; nothing goes out.
+    pub fn forget(&mut self, tag: u64) -> Result<(), Refusal>
+        ensures { λ r. ⌜ Forgotten (now (self .entry)) (now (self .exit)) tag r ⌝ }
+    {
+        if let Some(lane) = self.table.find(Wanted::Tag(tag)) {
+            let living = self.table.conns[lane];
+            self.table.conns[lane] = living.gone();
+            self.table.remove(lane);
+            return Ok(());
+        }
+        if let Some(lane) = self.table.find(Wanted::Gone(tag)) {
+            self.table.remove(lane);
+            return Ok(());
+        }
+        Err(Refusal::NotThere)
+    }
+
+    /// Whether one more connection can be opened. Where it can not, sixteen live.
+    pub fn has_room(&self) -> bool
+        ensures is { λ r. ⌜ r ≡ hasRoom (now (self .entry) .table) ⌝ }
+        ensures full { λ r. ⌜ (r ≡ false → (e : End) → Stands (now (self .entry)) e → living (e .conns) ≡ 16) ⌝ }
+    {
+        self.table.has_room()
+    }
+
+    /// Whether a connection has a tag, or had it and is not forgotten.
+    pub fn has(&self, tag: u64) -> bool
+        ensures is { λ r. ⌜ r ≡ isThere tag (now (self .entry) .table) ⌝ }
+        ensures had { λ r. ⌜ (r ≡ true → (e : End) → Stands (now (self .entry)) e → isIn tag (tags (e .conns)) ≡ true) ⌝ }
+    {
+        self.table.has(tag)
+    }
+}

@@ -1,0 +1,36 @@
+//! One end of the transport: its connections, the calls of their users, and the packets that it hears and sends. It has no clock and no socket: whatever happens is a call, and what goes out is an answer.
+mod calls;
+mod hearing;
+mod sending;
+
+use packet::settings::Settings;
+use table::Table;
+
+#[derive(Drop)]
+pub struct Endpoint {
+    table: Table,
+    /// Whether asks open connections.
+    listens: bool,
+    settings: Settings,
+}
+
+/// Why a call or a packet is refused. What is refused changes nothing, and nothing goes out.
+#[derive(Clone, Copy)]
+pub enum Refusal {
+    /// More bytes than one text may have.
+    TooLong,
+    /// A tag of 0 where there must be one.
+    ZeroTag,
+    /// A place, an acknowledgement or an edge beyond what a stream can have.
+    TooFar,
+    /// No such connection.
+    NotThere,
+    /// The user closed.
+    Closed,
+    /// All lanes have connections that live.
+    Full,
+    /// A connection has the tag, or had it and is gone.
+    TagThere,
+    /// The stream has as many bytes as one can have.
+    AllGiven,
+}

@@ -1,0 +1,4 @@
+pub mod Housing
+pub mod Rooms
+pub mod Searches
+pub mod Lodging

@@ -1,0 +1,4 @@
+pub mod Housed
+pub mod Search
+pub mod Grows
+pub mod Lodges
