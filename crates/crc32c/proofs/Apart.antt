@@ -152,7 +152,7 @@ steps-even m (suc n) c w h =
 
 -- lists of bytes
 
-number-lt : (s : List ℕ) → Bytes s → numberOf s < 2 ^ (8 * length s)
+pub number-lt : (s : List ℕ) → Bytes s → numberOf s < 2 ^ (8 * length s)
 number-lt [] h = omega arith
 number-lt (b ∷ bs) h =
     let n : ℕ = 8 * length bs in

@@ -26,7 +26,7 @@ use Rattle.wire.proofs.Digits.{bytes4-number32, from4, last4}
 use Rattle.wire.proofs.Took.{Took, took}
 
 -- what no packet can be is refused
-refused : (t : List ℕ) → ((q : m.Packet) → decode t ≡ Ok q → ⊥) → Refused t
+pub refused : (t : List ℕ) → ((q : m.Packet) → decode t ≡ Ok q → ⊥) → Refused t
 refused t h = go (decode t) refl
   where
     go : (r : Result m.Packet Fault) → decode t ≡ r → Refused t
@@ -34,7 +34,7 @@ refused t h = go (decode t) refl
     go (Err f) e = (f, e)
 
 -- the check that a packet has
-seal : (s : List ℕ) (p : m.Packet) → decode s ≡ Ok p → number32 s (length s - 4) ≡ crcOf (body s)
+pub seal : (s : List ℕ) (p : m.Packet) → decode s ≡ Ok p → number32 s (length s - 4) ≡ crcOf (body s)
 seal s p e = took s p e .check
 
 number-of-check : (s : List ℕ) (n : ℕ) → number32 s n ≡ number32 (drop n s) 0
@@ -46,7 +46,7 @@ number-of-check s n =
     let e3 = e 3 in
     rw (e0, e1, e2, e3)
 
-body-bytes : (s : List ℕ) (n : ℕ) → Bytes s → Bytes (take n s)
+pub body-bytes : (s : List ℕ) (n : ℕ) → Bytes s → Bytes (take n s)
 body-bytes s n h = each-is (take n s) (each-take n s (each-of s h))
   where
     each-take : (n : ℕ) (s : List ℕ) → Each s → Each (take n s)
@@ -54,10 +54,10 @@ body-bytes s n h = each-is (take n s) (each-take n s (each-of s h))
     each-take (suc n) [] e = none
     each-take (suc n) (b ∷ s) (more l e) = more l (each-take n s e)
 
-body-length : (s : List ℕ) → length (body s) ≡ length s - 4
+pub body-length : (s : List ℕ) → length (body s) ≡ length s - 4
 body-length s = length-take-le (length s - 4) s (omega arith)
 
-same-length : (s t : List ℕ) → length s ≡ length t → length (body s) ≡ length (body t)
+pub same-length : (s t : List ℕ) → length s ≡ length t → length (body s) ≡ length (body t)
 same-length s t l = body-length s ∙ ap (λ n. n - 4) l ∙ sym (body-length t)
 
 pub run-is-refused : (s t : List ℕ) (p : m.Packet) → Bytes s → Bytes t → length s ≡ length t → decode s ≡ Ok p → checkOf s ≡ checkOf t → OneRun (body s) (body t) → Refused t

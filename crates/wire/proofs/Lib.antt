@@ -5,3 +5,5 @@ pub mod Digits
 pub mod Trip
 pub mod Cuts
 pub mod Damage
+pub mod Independent
+pub mod Seam

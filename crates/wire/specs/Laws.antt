@@ -2,7 +2,8 @@
 use mathlib.Core.Path.{_≡_}
 use mathlib.Core.Bool.{true}
 use mathlib.Core.List.{List, _++_}
-use Prim.Native.Nat.{ℕ, _-_, _^_, _≤_, _<_}
+use Prim.Native.Nat.{ℕ, _-_, _*_, _^_, _≤_, _<_}
+use lib.Bits.{bitXor}
 use lib.ListN.{length, take, drop}
 use Rattle.std.specs.declared.option.Option.{Option}
 use Rattle.std.specs.declared.option.Option.the-variants.{Some, None}
@@ -12,7 +13,7 @@ use Rattle.hold.specs.Packet as m
 use Rattle.wire.specs.declared.fault.Fault.{Fault}
 use Rattle.wire.specs.declared.fault.Fault.the-variants.{Shape}
 use Rattle.crc32c.specs.Crc.{Bytes}
-use Rattle.crc32c.specs.Distance.{OneRun, bitsApart}
+use Rattle.crc32c.specs.Distance.{OneRun, bitsApart, numberOf}
 use Rattle.wire.specs.Format.{decode, encode, sound}
 
 -- a packet whose tags are numbers of 64 bits, and whose text is bytes
@@ -73,3 +74,19 @@ OtherCheckIsRefused = (s t : List ℕ) (p : m.Packet) → Bytes s → Bytes t �
 -- and one of which up to three bits are changed, anywhere
 abbrev pub FewBitsAreRefused : Type 0
 FewBitsAreRefused = (s t : List ℕ) (p : m.Packet) → Bytes s → Bytes t → length s ≡ length t → decode s ≡ Ok p → 0 < bitsApart s t → bitsApart s t ≤ 3 → Refused t
+
+-- a run of up to 30 bits, anywhere
+abbrev pub ShortRunIsRefused : Type 0
+ShortRunIsRefused = (s t : List ℕ) (p : m.Packet) → Bytes s → Bytes t → length s ≡ length t → decode s ≡ Ok p
+    → (first run : ℕ) → 0 < run → run < 2 ^ 30 → bitXor (numberOf s) (numberOf t) ≡ run * 2 ^ first → Refused t
+
+-- No more can be said of runs over the seam between body and check: the check is written high byte first, though its low byte would follow the
+-- body's bits, and so a run of 32 bits there can make one packet of another.
+pub record OpenSeam : Type 0 where
+  pub s : List ℕ
+  pub t : List ℕ
+  pub p : m.Packet
+  pub q : m.Packet
+  pub was : decode s ≡ Ok p
+  pub became : decode t ≡ Ok q
+  pub run : OneRun s t

@@ -1,5 +1,5 @@
 //! What holds of packets and their bytes; each function asks for a proof of one law, and does nothing.
-ghost use Rattle.wire.specs.Laws.{CutIsRefused, FewBitsAreRefused, LongerIsRefused, OneWay, OtherCheckIsRefused, ReadIsWritten, RunIsRefused, WrittenIsRead};
+ghost use Rattle.wire.specs.Laws.{CutIsRefused, FewBitsAreRefused, LongerIsRefused, OneWay, OpenSeam, OtherCheckIsRefused, ReadIsWritten, RunIsRefused, ShortRunIsRefused, WrittenIsRead};
 
 pub fn written_is_read() -> u8
     ensures { λ _. ⌜ WrittenIsRead ⌝ }
@@ -45,6 +45,18 @@ pub fn other_check_is_refused() -> u8
 
 pub fn few_bits_are_refused() -> u8
     ensures { λ _. ⌜ FewBitsAreRefused ⌝ }
+{
+    0
+}
+
+pub fn short_run_is_refused() -> u8
+    ensures { λ _. ⌜ ShortRunIsRefused ⌝ }
+{
+    0
+}
+
+pub fn open_seam() -> u8
+    ensures { λ _. ⌜ OpenSeam ⌝ }
 {
     0
 }
