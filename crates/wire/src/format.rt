@@ -185,72 +185,32 @@ fn flags_of(last: bool, all: bool) -> u8
     (last as u8) | ((all as u8) << 1)
 }
 
-/// All before the text.
-fn header(head: Head, text: &[u8]) -> [u8; HEADER]
-    requires { ⌜ length (now text) ≤ textSize ⌝ }
-    ensures bytes { λ r. ⌜ r ≡ headerOf (packetOf head (now (text .entry))) ⌝ }
-    ensures tags { λ r. ⌜ (head .from < 2 ^ 64) × (head .to < 2 ^ 64) ⌝ }
-{
-    let count = (text.len() as u16).to_be_bytes();
-    let from = head.from.to_be_bytes();
-    let to = head.to.to_be_bytes();
-    let place = head.place.to_be_bytes();
-    let upto = head.upto.to_be_bytes();
-    let edge = head.edge.to_be_bytes();
-    [
-        kind_byte(head.kind),
-        flags_of(head.last, head.all),
-        count[0],
-        count[1],
-        from[0],
-        from[1],
-        from[2],
-        from[3],
-        from[4],
-        from[5],
-        from[6],
-        from[7],
-        to[0],
-        to[1],
-        to[2],
-        to[3],
-        to[4],
-        to[5],
-        to[6],
-        to[7],
-        place[0],
-        place[1],
-        place[2],
-        place[3],
-        place[4],
-        place[5],
-        place[6],
-        place[7],
-        upto[0],
-        upto[1],
-        upto[2],
-        upto[3],
-        upto[4],
-        upto[5],
-        upto[6],
-        upto[7],
-        edge[0],
-        edge[1],
-        edge[2],
-        edge[3],
-        edge[4],
-        edge[5],
-        edge[6],
-        edge[7],
-    ]
-}
-
 fn put(out: &mut [u8], at: usize, bytes: &[u8])
     requires { ⌜ at + length (now bytes) ≤ length (now out) ⌝ }
     ensures { λ _. ⌜ now (out .exit) ≡ take at (now (out .entry)) ++ (now (bytes .entry) ++ drop (at + length (now (bytes .entry))) (now (out .entry))) ⌝ }
 {
     let end = at + bytes.len();
     out[at..end].copy_from_slice(bytes);
+}
+
+/// Writes all before the text.
+fn write_header(head: Head, text: &[u8], out: &mut [u8])
+    requires size { ⌜ length (now text) ≤ textSize ⌝ }
+    requires room { ⌜ frame ≤ length (now out) ⌝ }
+    ensures bytes { λ _. ⌜ now (out .exit) ≡ headerOf (packetOf head (now (text .entry))) ++ drop 44 (now (out .entry)) ⌝ }
+    ensures tags { λ _. ⌜ (head .from < 2 ^ 64) × (head .to < 2 ^ 64) ⌝ }
+{
+    put(
+        out,
+        0,
+        &[kind_byte(head.kind), flags_of(head.last, head.all)],
+    );
+    put(out, 2, &(text.len() as u16).to_be_bytes());
+    put(out, 4, &head.from.to_be_bytes());
+    put(out, 12, &head.to.to_be_bytes());
+    put(out, 20, &head.place.to_be_bytes());
+    put(out, 28, &head.upto.to_be_bytes());
+    put(out, 36, &head.edge.to_be_bytes());
 }
 
 /// Writes a packet to the front of `out`, which has room for it.
@@ -262,7 +222,7 @@ fn write_all(head: Head, text: &[u8], out: &mut [u8]) -> usize
     ensures tags { λ r. ⌜ (head .from < 2 ^ 64) × (head .to < 2 ^ 64) ⌝ }
 {
     let end = HEADER + text.len();
-    put(out, 0, &header(head, text));
+    write_header(head, text, out);
     put(out, HEADER, text);
     let check = crc32c(&out[..end]).to_be_bytes();
     put(out, end, &check);

@@ -6,7 +6,7 @@ use Rattle.wire.proofs.format.write_all.Needs as need
 pub returns : need.returns
 returns c = record {
   count = refl;
-  bytes = three (packetOf (c .args .head) (c .args .text .now)) (c .header .result) (c .put .last .out) (c .put-2 .last .out) (c .put-3 .last .out) (c .to-be-bytes-check .result) (c .args .out .now) (c .crc32c .result)
-      (c .header .ensures .bytes) (c .put .ensures) (c .put-2 .ensures) (c .crc32c .ensures) (c .to-be-bytes-check .ensures) (c .put-3 .ensures);
-  tags = c .header .ensures .tags;
+  bytes = three (packetOf (c .args .head) (c .args .text .now)) (c .write-header .last .out) _ _ _ (c .args .out .now) _
+      (c .write-header .ensures .bytes) (c .put .ensures) (c .crc32c .ensures) (c .to-be-bytes-check .ensures) (c .put-2 .ensures);
+  tags = c .write-header .ensures .tags;
 }
