@@ -1,7 +1,7 @@
 -- Different bytes and their checks differ in at least four bits. In an odd number of bits they cannot differ, since a step keeps it even or odd
 -- how many are set; and for two bits the steps from 1 would have to come back to 1.
 use mathlib.Core.Path.{_≡_, refl, sym, ap, subst, _∙_}
-use mathlib.Core.Bool.{Bool, true, false, _&&_, not}
+use mathlib.Core.Bool.{Bool, true, _&&_, not}
 use mathlib.Core.Logic.{_⊎_, inl, inr, ⊎-elim}
 use mathlib.Core.List.{List, [], _∷_}
 use Prim.Native.Nat.{ℕ, zero, suc, _+_, _-_, _*_, _/_, _%_, _^_, _≤_, _<_}
@@ -17,7 +17,7 @@ use Rattle.crc32c.specs.Crc.{Bytes, generator, bitStep, crcOf}
 use Rattle.crc32c.specs.Distance.{numberOf, bitsApart}
 use Rattle.crc32c.proofs.Bounds.{crc-lt}
 use Rattle.crc32c.proofs.Linear.{bit-cases}
-use Rattle.crc32c.proofs.Steps.{steps, steps-more, steps-both, steps-linear, steps-lt, steps-zero, steps-one-way, xor-same, crc-apart}
+use Rattle.crc32c.proofs.Steps.{steps, steps-both, steps-linear, steps-lt, steps-zero, steps-one-way, xor-same, crc-apart}
 
 -- the steps from 1 do not come back to it
 

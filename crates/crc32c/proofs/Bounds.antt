@@ -3,7 +3,6 @@ use mathlib.Core.List.{List, [], _∷_, _++_}
 use Prim.Native.Nat.{ℕ, zero, suc, _+_, _*_, _/_, _%_, _^_, _<_}
 use native.Mathlib.Omega.{arith}
 use lib.Bits.{bitXor, xor-lt}
-use lib.ListN.{getD}
 use Rattle.crc32c.specs.Crc.{Bytes, generator, bitStep, eightSteps, byteStep, registerAfter, crcOf}
 
 pub bit-lt : (c : ℕ) → c < 2 ^ 32 → bitStep c < 2 ^ 32

@@ -1,11 +1,9 @@
 -- A step of the register is linear over bitXor, so eight steps are one look into the table.
--- Assumes nothing.
-use mathlib.Core.Path.{_≡_, refl, sym, _∙_, ap, subst}
+use mathlib.Core.Path.{_≡_, sym, _∙_, ap}
 use mathlib.Core.Logic.{_⊎_, inl, inr}
-use Prim.Native.Nat.{ℕ, _+_, _*_, _/_, _%_, _^_, _<_}
+use Prim.Native.Nat.{ℕ, _*_, _/_, _%_, _^_, _<_}
 use native.Mathlib.Omega.{arith}
-use native.Mathlib.Nat.{mod-lt, add-comm}
-use lib.Bits.{bitXor, xor-shr, xor-mod, xor-assoc, xor-comm, xor-zero-r, xor-zero-l, xor-shifted}
+use lib.Bits.{bitXor, xor-shr, xor-mod, xor-assoc, xor-comm, xor-zero-r, xor-shifted}
 use Rattle.std.proofs.shelf.Bits.{div-add-mod'}
 use Rattle.crc32c.specs.Crc.{generator, bitStep, eightSteps, byteStep}
 

@@ -1,16 +1,15 @@
 -- The register as what is left of one number, the bits of all bytes, by as many steps.
 use mathlib.Core.Path.{_≡_, refl, sym, ap, _∙_}
-use mathlib.Core.Logic.{_⊎_, inl, inr, ⊎-elim}
 use mathlib.Core.List.{List, [], _∷_}
-use Prim.Native.Nat.{ℕ, zero, suc, _+_, _-_, _*_, _/_, _%_, _^_, _≤_, _<_}
+use Prim.Native.Nat.{ℕ, zero, suc, _+_, _-_, _*_, _/_, _%_, _^_, _<_}
 use native.Mathlib.Nat.{mul-pos, mul-assoc, pow-suc}
 use native.Mathlib.Omega.{arith}
-use lib.Bits.{bitXor, xor-shr, xor-mod, xor-assoc, xor-comm, xor-zero-r, xor-zero-l, xor-shifted, xor-self, xor-lt, xor-block}
+use lib.Bits.{bitXor, xor-assoc, xor-comm, xor-zero-r, xor-zero-l, xor-shifted, xor-self, xor-lt}
 use lib.ListN.{length}
 use lib.Pow.{pow-pos}
 use Rattle.crc32c.specs.Crc.{Bytes, generator, bitStep, eightSteps, byteStep, registerAfter, crcOf}
 use Rattle.crc32c.specs.Distance.{numberOf, OneRun}
-use Rattle.crc32c.proofs.Linear.{swap4, bit-cases, bit-linear, byte-linear, even, high}
+use Rattle.crc32c.proofs.Linear.{swap4, bit-linear, byte-linear, even, high}
 use Rattle.crc32c.proofs.Bounds.{bit-lt}
 
 unfoldable pub steps : ℕ → ℕ → ℕ

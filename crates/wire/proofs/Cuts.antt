@@ -1,7 +1,7 @@
 -- A packet that is cut, or has bytes behind it, has a length that its count does not say.
 use mathlib.Core.Path.{_≡_, sym, ap, _∙_}
 use mathlib.Core.List.{List, _++_}
-use Prim.Native.Nat.{ℕ, _+_, _*_, _^_, _≤_, _<_}
+use Prim.Native.Nat.{ℕ, _+_, _≤_, _<_}
 use native.Mathlib.Omega.{arith}
 use lib.ListN.{length, getD, take, drop, length-append, take-append-drop}
 use lib.Seq.{length-take-le}
@@ -11,7 +11,7 @@ use Rattle.hold.specs.Packet as m
 use Rattle.wire.specs.declared.fault.Fault.the-variants.{Shape}
 use Rattle.wire.specs.Numbers.{number16}
 use Rattle.wire.specs.Format.{decode}
-use Rattle.wire.proofs.Took.{Took, took, wrong-length}
+use Rattle.wire.proofs.Took.{took, wrong-length}
 
 -- the count stands in the front of a list
 same-count : (s t : List ℕ) → 4 ≤ length s → number16 (s ++ t) 2 ≡ number16 s 2

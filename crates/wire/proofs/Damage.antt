@@ -1,5 +1,5 @@
 -- A packet that was changed a little is no packet.
-use mathlib.Core.Path.{_≡_, refl, sym, ap, subst, _∙_}
+use mathlib.Core.Path.{_≡_, refl, sym, ap, _∙_}
 use mathlib.Core.Logic.{_⊎_, inl, inr}
 use mathlib.Core.List.{List, [], _∷_}
 use Prim.Native.Nat.{ℕ, zero, suc, _+_, _-_, _*_, _^_, _≤_, _<_}
@@ -19,11 +19,11 @@ use Rattle.crc32c.proofs.Bounds.{Each, none, more, each-is, each-of}
 use Rattle.crc32c.proofs.Steps.{run-changes}
 use Rattle.crc32c.proofs.Apart.{four-apart, none-apart}
 use Rattle.wire.specs.declared.fault.Fault.{Fault}
-use Rattle.wire.specs.Numbers.{number16, number32, bytes4}
+use Rattle.wire.specs.Numbers.{number32, bytes4}
 use Rattle.wire.specs.Format.{decode}
 use Rattle.wire.specs.Laws.{Refused, body, checkOf}
 use Rattle.wire.proofs.Digits.{bytes4-number32, from4, last4}
-use Rattle.wire.proofs.Took.{Took, took}
+use Rattle.wire.proofs.Took.{took}
 
 -- what no packet can be is refused
 pub refused : (t : List ℕ) → ((q : m.Packet) → decode t ≡ Ok q → ⊥) → Refused t

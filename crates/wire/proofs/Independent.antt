@@ -1,11 +1,11 @@
 -- Maps over bits: a computed test, by elimination, that a linear map makes 0 of nothing but 0.
-use mathlib.Core.Path.{_≡_, refl, sym, ap, _∙_}
-use mathlib.Core.Bool.{Bool, true, false, cond, _&&_}
+use mathlib.Core.Path.{_≡_, sym, ap, _∙_}
+use mathlib.Core.Bool.{Bool, true, cond, _&&_}
 use mathlib.Core.Logic.{_⊎_, inl, inr, ⊎-elim}
 use Prim.Native.Nat.{ℕ, zero, suc, _+_, _*_, _/_, _%_, _^_, _<_}
 use native.Mathlib.Nat.{pow-suc, zero-mul, one-mul}
 use native.Mathlib.Omega.{arith}
-use lib.Bits.{bitXor, xor-shr, xor-mod, xor-zero-r, xor-zero-l, xor-self, xor-comm, xor-shifted, xor-block}
+use lib.Bits.{bitXor, xor-shr, xor-mod, xor-zero-r, xor-zero-l, xor-self, xor-shifted, xor-block}
 use lib.Dec.{eqb}
 use Rattle.std.proofs.shelf.Tests.{and-parts, eqb-true}
 use Rattle.crc32c.proofs.Linear.{swap4, bit-cases}

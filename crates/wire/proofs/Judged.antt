@@ -1,6 +1,6 @@
 -- The answer of the reader, put together from its tests.
-use mathlib.Core.Path.{_≡_, refl, sym, _∙_, ap}
-use mathlib.Core.Bool.{Bool, true, false, cond}
+use mathlib.Core.Path.{_≡_, sym, _∙_, ap}
+use mathlib.Core.Bool.{true, cond}
 use mathlib.Core.List.{List}
 use Prim.Native.Nat.{ℕ, _-_, _≤_}
 use lib.Dec.{ltb}
@@ -9,7 +9,7 @@ use Rattle.std.proofs.shelf.Tests.{cond-true, cond-false, le-ltb, eq-eqb}
 use Rattle.std.specs.declared.option.Option.{Option}
 use Rattle.std.specs.declared.option.Option.the-variants.{Some}
 use Rattle.std.specs.declared.result.Result.{Result}
-use Rattle.std.specs.declared.result.Result.the-variants.{Ok, Err}
+use Rattle.std.specs.declared.result.Result.the-variants.{Err}
 use Rattle.hold.specs.Packet as m
 use Rattle.packet.specs.declared.packet.Kind.{Kind}
 use Rattle.wire.specs.declared.fault.Fault.{Fault}

@@ -6,11 +6,10 @@ use mathlib.Core.List.{List, [], _∷_, _++_}
 use Prim.Native.Nat.{ℕ, zero, suc, _+_, _-_, _*_, _/_, _%_, _^_, _≤_, _<_}
 use native.Mathlib.Nat.{mul-pos, mul-assoc, add-mul, pow-suc, zero-add, zero-mul, div-one}
 use native.Mathlib.Omega.{arith}
-use lib.Bits.{bitXor, xor-shr, xor-mod, xor-self, xor-lt, xor-block, xor-zero-r}
-use lib.ListN.{length, getD, take, drop, take-append-drop}
+use lib.Bits.{bitXor, xor-shr, xor-mod, xor-self, xor-lt, xor-block}
+use lib.ListN.{length, take, drop, take-append-drop}
 use lib.Pow.{pow-add, pow-pos, pow-mono}
 use Rattle.std.proofs.shelf.Bits.{shr-high, mod-low, shl-below, mod-below, shr-split}
-use Rattle.std.proofs.shelf.Lists.{getD-drop}
 use Rattle.std.proofs.shelf.Tests.{and-parts, cases-eq, cases-lt}
 use Rattle.std.specs.declared.result.Result.the-variants.{Ok}
 use Rattle.hold.specs.Packet as m
@@ -24,7 +23,7 @@ use Rattle.wire.specs.Format.{decode}
 use Rattle.wire.specs.Laws.{OpenSeam, Refused, body, checkOf}
 use Rattle.wire.proofs.Digits.{from4, last4, number32-bytes4}
 use Rattle.wire.proofs.Independent.{Linear, independent, independent-is, lowest}
-use Rattle.wire.proofs.Took.{Took, took}
+use Rattle.wire.proofs.Took.{took}
 use Rattle.wire.proofs.Damage.{refused, seal, body-bytes, body-length, same-length}
 
 abbrev digit : ℕ → ℕ → ℕ

@@ -2,12 +2,12 @@
 use mathlib.Core.Path.{_≡_, refl, sym, ap, _∙_}
 use mathlib.Core.Bool.{Bool, true, false, cond, _||_}
 use mathlib.Core.List.{List, [], _∷_, _++_}
-use Prim.Native.Nat.{ℕ, _+_, _-_, _*_, _/_, _%_, _^_, _≤_, _<_}
+use Prim.Native.Nat.{ℕ, _+_, _-_, _/_, _%_, _≤_, _<_}
 use native.Mathlib.Omega.{arith}
 use lib.Dec.{eqb, ltb, leb}
 use lib.ListN.{length, getD, take, drop, length-append, length-drop, take-append-drop}
 use lib.Seq.{take-add, length-take-le}
-use Rattle.std.proofs.shelf.Lists.{take-at, drop-at, getD-append-right}
+use Rattle.std.proofs.shelf.Lists.{take-at, getD-append-right}
 use Rattle.std.proofs.shelf.Tests.{and-parts, leb-true, ltb-false, or-parts}
 use Rattle.std.proofs.shelf.Ways.{tells}
 use Rattle.std.specs.declared.option.Option.{Option}
@@ -16,16 +16,16 @@ use Rattle.std.specs.declared.result.Result.{Result}
 use Rattle.std.specs.declared.result.Result.the-variants.{Ok, Err}
 use Rattle.hold.specs.Packet as m
 use Rattle.crc32c.specs.Crc.{Bytes, crcOf}
-use Rattle.crc32c.proofs.Bounds.{Each, none, more, each-is, each-of, each-both, crc-lt}
+use Rattle.crc32c.proofs.Bounds.{more, each-is, each-of, each-both, crc-lt}
 use Rattle.packet.specs.Packets.{kindOf}
 use Rattle.packet.specs.declared.packet.Kind.{Kind}
 use Rattle.packet.specs.declared.packet.Kind.the-variants.{Ask, Yes, Text, Bye}
 use Rattle.wire.specs.declared.fault.Fault.{Fault}
 use Rattle.wire.specs.declared.fault.Fault.the-variants.{Zero, Range}
 use Rattle.wire.specs.Numbers.{number16, number32, number64, bytes2, bytes4, bytes8}
-use Rattle.wire.specs.Format.{Written, checkFits, covered, decode, encode, faultIn, fieldsOf, flagsOf, headerOf, isNone, kindIn, kindNumber, rangeFault, sound, strayField, tagFault, mostPlace, mostEdge}
+use Rattle.wire.specs.Format.{Written, covered, decode, encode, faultIn, fieldsOf, flagsOf, headerOf, isNone, kindIn, kindNumber, rangeFault, sound, strayField, tagFault, mostPlace, mostEdge}
 use Rattle.wire.specs.Laws.{Fits, ReadsBack, WasWritten}
-use Rattle.wire.proofs.Digits.{number64-bytes8, number32-bytes4, number16-bytes2, bytes8-are, bytes8-number64, bytes4-number32, bytes2-number16, from4, from8, reads, reads-are, last4}
+use Rattle.wire.proofs.Digits.{number64-bytes8, number32-bytes4, number16-bytes2, bytes8-are, bytes8-number64, bytes4-number32, bytes2-number16, reads-are, last4}
 use Rattle.wire.proofs.Took.{Took, took, takes}
 
 same-packet : (p q : m.Packet) → p .kind ≡ q .kind → p .from ≡ q .from → p .to ≡ q .to → p .place ≡ q .place → p .text ≡ q .text → p .last ≡ q .last → p .upto ≡ q .upto → p .all ≡ q .all → p .edge ≡ q .edge → p ≡ q

@@ -2,18 +2,17 @@
 -- kind (1 byte), flags (1), count (2), from (8), to (8), place (8), upto (8), edge (8), the text's bytes, check (4) over all before it.
 use mathlib.Core.Path.{_≡_}
 use mathlib.Core.Bool.{Bool, true, false, cond, _&&_, _||_, not}
-use mathlib.Core.List.{List, [], _∷_, _++_}
-use Prim.Native.Nat.{ℕ, _+_, _-_, _*_, _/_, _%_, _^_, _<_, _≤_}
+use mathlib.Core.List.{List, _∷_, _++_}
+use Prim.Native.Nat.{ℕ, _+_, _-_, _*_, _/_, _%_, _^_}
 use lib.Dec.{eqb, ltb, leb}
 use lib.ListN.{length, getD, take, drop}
-use denote.Ref.{now}
 use Rattle.std.specs.declared.option.Option.{Option}
 use Rattle.std.specs.declared.option.Option.the-variants.{Some, None}
 use Rattle.std.specs.declared.result.Result.{Result}
 use Rattle.std.specs.declared.result.Result.the-variants.{Ok, Err}
 use Rattle.hold.specs.Packet as m
 use Rattle.crc32c.specs.Crc.{crcOf}
-use Rattle.packet.specs.Packets.{kindOf, packetOf}
+use Rattle.packet.specs.Packets.{kindOf}
 use Rattle.packet.specs.Sizes.{textSize}
 use Rattle.packet.specs.declared.packet.Kind.{Kind}
 use Rattle.packet.specs.declared.packet.Kind.the-variants.{Ask, Yes, Text, Bye}

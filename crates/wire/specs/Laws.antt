@@ -75,13 +75,13 @@ OtherCheckIsRefused = (s t : List ℕ) (p : m.Packet) → Bytes s → Bytes t �
 abbrev pub FewBitsAreRefused : Type 0
 FewBitsAreRefused = (s t : List ℕ) (p : m.Packet) → Bytes s → Bytes t → length s ≡ length t → decode s ≡ Ok p → 0 < bitsApart s t → bitsApart s t ≤ 3 → Refused t
 
--- a run of up to 30 bits, anywhere
+-- and one of which a run of up to 30 bits is changed, anywhere
 abbrev pub ShortRunIsRefused : Type 0
 ShortRunIsRefused = (s t : List ℕ) (p : m.Packet) → Bytes s → Bytes t → length s ≡ length t → decode s ≡ Ok p
     → (first run : ℕ) → 0 < run → run < 2 ^ 30 → bitXor (numberOf s) (numberOf t) ≡ run * 2 ^ first → Refused t
 
--- No more can be said of runs over the seam between body and check: the check is written high byte first, though its low byte would follow the
--- body's bits, and so a run of 32 bits there can make one packet of another.
+-- It does not hold of 32 bits: the check is written high byte first, though its low byte would follow the body's bits, and so a run of 32 bits
+-- over the seam between them can make one packet of another.
 pub record OpenSeam : Type 0 where
   pub s : List ℕ
   pub t : List ℕ
