@@ -1,11 +1,10 @@
 -- What users give and take.
-use mathlib.Core.Bool.{Bool, true, false, cond}
+use mathlib.Core.Bool.{Bool, true, false, cond, _&&_}
 use mathlib.Core.List.{List}
-use mathlib.Core.Path.{_≡_, refl, sym, ap, _∙_}
-use Prim.Native.Nat.{ℕ, _≤_, _<_, min}
-use lib.Dec.{leb}
+use mathlib.Core.Path.{_≡_, sym, ap, _∙_}
+use Prim.Native.Nat.{ℕ, min}
+use lib.Dec.{leb, ltb}
 use lib.ListN.{length}
-use Rattle.std.proofs.shelf.Tests.{le-leb, lt-leb}
 use Rattle.hold.specs.Conn.{Conn}
 use Rattle.hold.specs.Packet.{Settings}
 use Rattle.hold.specs.World.{There}
@@ -19,17 +18,14 @@ module _ (k : Settings) (x : Connection) (c : Conn) (s : Stand1 k x c) where
   given-is = s .waits .given-all ∙ ap (λ (d : Conn). length (d .given)) (s .is)
 
   -- the number of a give, by the code's own values
-  give-number : giveNumber (There c) ≡ cond (x .stream .closed) 6 (cond (leb most (x .stream .sender .given)) 9 0)
-  give-number = ap (λ b. cond b 6 (cond (leb most (length (c .given))) 9 0)) (ap (λ (d : Conn). d .closed) (sym (s .is))) ∙ ap (λ n. cond (x .stream .closed) 6 (cond (leb most n) 9 0)) (sym given-is)
+  give-number : (bs : List ℕ) → giveNumber bs (There c) ≡ cond (x .stream .closed) 6 (cond (leb most (x .stream .sender .given) && ltb 0 (length bs)) 9 0)
+  give-number bs = ap (λ b. cond b 6 (cond (leb most (length (c .given)) && ltb 0 (length bs)) 9 0)) (ap (λ (d : Conn). d .closed) (sym (s .is))) ∙ ap (λ n. cond (x .stream .closed) 6 (cond (leb most n && ltb 0 (length bs)) 9 0)) (sym given-is)
 
-  pub give-closed : x .stream .closed ≡ true → giveNumber (There c) ≡ 6
-  give-closed e = give-number ∙ ap (λ b. cond b 6 (cond (leb most (x .stream .sender .given)) 9 0)) e
+  pub give-closed : (bs : List ℕ) → x .stream .closed ≡ true → giveNumber bs (There c) ≡ 6
+  give-closed bs e = give-number bs ∙ ap (λ b. cond b 6 (cond (leb most (x .stream .sender .given) && ltb 0 (length bs)) 9 0)) e
 
-  pub give-all : x .stream .closed ≡ false → most ≤ x .stream .sender .given → giveNumber (There c) ≡ 9
-  give-all e h = give-number ∙ ap (λ b. cond b 6 (cond (leb most (x .stream .sender .given)) 9 0)) e ∙ ap (λ b. cond b 9 0) (le-leb most (x .stream .sender .given) h)
-
-  pub give-some : x .stream .closed ≡ false → x .stream .sender .given < most → giveNumber (There c) ≡ 0
-  give-some e h = give-number ∙ ap (λ b. cond b 6 (cond (leb most (x .stream .sender .given)) 9 0)) e ∙ ap (λ b. cond b 9 0) (lt-leb most (x .stream .sender .given) h)
+  pub give-open : (bs : List ℕ) (b : Bool) → x .stream .closed ≡ false → (leb most (x .stream .sender .given) && ltb 0 (length bs)) ≡ b → giveNumber bs (There c) ≡ cond b 9 0
+  give-open bs b e h = give-number bs ∙ ap (λ b. cond b 6 (cond (leb most (x .stream .sender .given) && ltb 0 (length bs)) 9 0)) e ∙ ap (λ b. cond b 9 0) h
 
   pub give-count : (bs : List ℕ) (n : ℕ) → x .stream .closed ≡ false → n ≡ cond (x .stream .closed) 0 (min (length bs) (free (x .stream .sender .given) (x .stream .sender .upto))) →
       n ≡ min (length bs) (free (length (c .given)) (c .upto))

@@ -1,17 +1,15 @@
 -- What the calls of a user do and answer.
-use mathlib.Core.Bool.{Bool, true, false, cond, not}
-use mathlib.Core.List.{List, [], _∷_, _++_, List·Memᴰ}
+use mathlib.Core.Bool.{true, false, cond, not, _&&_}
+use mathlib.Core.List.{List, [], _∷_, List·Memᴰ}
 use mathlib.Core.Path.{_≡_}
-use Prim.Native.Nat.{ℕ, _-_, _≤_, min}
-use lib.Dec.{eqb, leb}
-use lib.ListN.{drop, length, take}
+use Prim.Native.Nat.{ℕ, min}
+use lib.Dec.{eqb, leb, ltb}
+use lib.ListN.{length, take}
 use Rattle.std.specs.declared.option.Option.{Option}
-use Rattle.std.specs.declared.option.Option.the-variants.{Some, None}
+use Rattle.std.specs.declared.option.Option.the-variants.{Some}
 use Rattle.std.specs.declared.result.Result.{Result}
 use Rattle.std.specs.declared.result.Result.the-variants.{Ok, Err}
-use Rattle.hold.specs.Code.{living}
 use Rattle.hold.specs.Conn.{Conn}
-use Rattle.hold.specs.Promise.{tags}
 use Rattle.hold.specs.World.{Breaks, Closes, End, Forgets, Found, Gives, NotThere, Opens, Takes, There, Who, World, byTag, end, gone, isIn, step}
 use Rattle.packet.specs.Packets.{packet, sent}
 use Rattle.packet.specs.declared.packet.Packet.{Packet}
@@ -60,19 +58,19 @@ abbrev pub Finished : Endpoint → Endpoint → ℕ → Result (Unit {0}) Refusa
 Finished x y tag (Ok u) = Numbered x tag closeNumber 0 × Steps x y [] (λ o. Closes o tag)
 Finished x y tag (Err f) = RefusedFor x y tag closeNumber f
 
-abbrev pub giveNumber : Found → ℕ
-giveNumber NotThere = 5
-giveNumber (There c) = cond (c .closed) 6 (cond (leb most (length (c .given))) 9 0)
+abbrev pub giveNumber : List ℕ → Found → ℕ
+giveNumber bs NotThere = 5
+giveNumber bs (There c) = cond (c .closed) 6 (cond (leb most (length (c .given)) && ltb 0 (length bs)) 9 0)
 
 -- the first n of some bytes given, as many as have room
 pub record GaveSome (x y : Endpoint) (tag : ℕ) (bs : List ℕ) (n : ℕ) : Type 0 where
-  pub number : Numbered x tag giveNumber 0
+  pub number : Numbered x tag (giveNumber bs) 0
   pub steps : Steps x y [] (λ o. Gives o tag (take n bs))
   pub count : (e : End) → Stands x e → (c : Conn) → byTag tag (e .conns) ≡ There c → n ≡ min (length bs) (free (length (c .given)) (c .upto))
 
 abbrev pub Gave : Endpoint → Endpoint → ℕ → List ℕ → Result ℕ Refusal → Type 0
 Gave x y tag bs (Ok n) = GaveSome x y tag bs n
-Gave x y tag bs (Err f) = RefusedFor x y tag giveNumber f
+Gave x y tag bs (Err f) = RefusedFor x y tag (giveNumber bs) f
 
 abbrev pub breakNumber : Found → ℕ
 breakNumber NotThere = 5

@@ -3,4 +3,5 @@ pub mod Stands
 pub mod Steps
 pub mod Calls
 pub mod Saying
+pub mod AsCode
 pub mod Hearing

@@ -1,11 +1,15 @@
-ghost use mathlib.Core.Bool.{false, true};
+ghost use lib.Dec.{leb, ltb};
+ghost use lib.ListN.{length};
+ghost use mathlib.Core.Bool.{false, true, _&&_};
 ghost use mathlib.Core.List.{[]};
 ghost use mathlib.Core.Path.{_≡_};
-ghost use Prim.Native.Nat.{ℕ};
 ghost use Rattle.hold.specs.Code.{living};
 ghost use Rattle.hold.specs.Promise.{tags};
 ghost use Rattle.hold.specs.World.{End, Listens, Who, end, isIn, start};
+ghost use Rattle.ring.specs.Sending.{most};
 ghost use Rattle.table.specs.Search.{hasRoom, isThere};
+ghost use Rattle.packet.specs.Agreed.{cfgOf};
+ghost use Rattle.endpoint.specs.AsCode.{Agrees, CodeTaking};
 ghost use Rattle.endpoint.specs.Calls.{Broken, Finished, Forgotten, Gave, Opened, Taken};
 ghost use Rattle.endpoint.specs.Stands.{Stands};
 ghost use Rattle.endpoint.specs.Steps.{Steps};
@@ -19,6 +23,13 @@ use packet::settings::Settings;
 use ring::sender::MOST;
 use table::Table;
 use table::Wanted;
+
+/// Whether there are bytes for a stream that has all that one can have.
+fn is_beyond(given: u64, bytes: &[u8]) -> bool
+    ensures { λ r. ⌜ r ≡ (leb most given && ltb 0 (length (now (bytes .entry)))) ⌝ }
+{
+    given >= MOST && bytes.len() > 0
+}
 
 impl Endpoint {
     /// An end with no connection, which takes no asks.
@@ -85,7 +96,7 @@ impl Endpoint {
         if c.stream.closed {
             return Err(Refusal::Closed);
         }
-        if c.stream.sender.given >= MOST {
+        if is_beyond(c.stream.sender.given, bytes) {
             return Err(Refusal::AllGiven);
         }
         let (given, n) = c.give(bytes);
@@ -154,5 +165,13 @@ impl Endpoint {
         ensures had { λ r. ⌜ (r ≡ true → (e : End) → Stands (now (self .entry)) e → isIn tag (tags (e .conns)) ≡ true) ⌝ }
     {
         self.table.has(tag)
+    }
+
+    /// What an end takes and refuses makes it a code in the model's sense, with room for sixteen connections.
+    pub fn is_code(settings: Settings) -> u8
+        ensures code { λ _. ⌜ CodeTaking (cfgOf settings) ⌝ }
+        ensures agrees { λ _. ⌜ Agrees ⌝ }
+    {
+        0
     }
 }
