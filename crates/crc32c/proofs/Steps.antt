@@ -16,10 +16,6 @@ unfoldable pub steps : ℕ → ℕ → ℕ
 steps zero c = c
 steps (suc n) c = steps n (bitStep c)
 
-pub steps-more : (n c : ℕ) → steps (n + 1) c ≡ steps n (bitStep c)
-unfolding steps
-steps-more n c = ap (λ k. steps k c) (let e : n + 1 ≡ suc n = omega arith in e)
-
 pub steps-both : (m n c : ℕ) → steps (m + n) c ≡ steps n (steps m c)
 unfolding steps
 steps-both zero n c = ap (λ k. steps k c) (let e : 0 + n ≡ n = omega arith in e)
