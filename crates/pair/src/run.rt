@@ -15,7 +15,6 @@ use text::data::decode;
 
 /// Bytes for which a connection has room, and most bytes of one text, where the script does not say.
 const ROOM: u64 = 64;
-
 const SIZE: u64 = 1024;
 
 fn side_of(side: Named) -> Side {
@@ -73,12 +72,7 @@ fn make(rt: &LibcRuntime, pair: &mut Simulation, command: Command<'_>) -> Result
     print_packets(rt, "R", pair.sent_to(Side::Right), right)
 }
 
-fn act(
-    rt: &LibcRuntime,
-    pair: &mut Simulation,
-    side: Side,
-    call: Call<'_>,
-) -> Result<(), AnyError> {
+fn act(rt: &LibcRuntime, pair: &mut Simulation, side: Side, call: Call<'_>) -> Result<(), AnyError> {
     let mut bytes = [0; 1024];
     let mut count = 0;
     if let Call::Give { encoded, .. } = call {
@@ -94,10 +88,7 @@ fn act(
 /// Does what a line says.
 fn obey(rt: &LibcRuntime, pair: &mut Simulation, line: Line<'_>) -> Result<(), AnyError> {
     match line {
-        Line::Act {
-            side: Some(side),
-            call,
-        } => act(rt, pair, side_of(side), call),
+        Line::Act { side: Some(side), call } => act(rt, pair, side_of(side), call),
         Line::Bring { to, which, tag } => {
             let at = which.saturating_sub(1) as usize;
             make(rt, pair, Command::Deliver(side_of(to), at, tag))

@@ -1,7 +1,8 @@
 ghost use mathlib.Core.Path.{_≡_};
+
 ghost use Rattle.simulation.specs.Seen.{bookOf, sentTo};
-use crate::Simulation;
 use crate::pair::Side;
+use crate::Simulation;
 use ledger::book::Book;
 use packet::packet::Packet;
 
