@@ -1,0 +1,3 @@
+//! Which text a connection sends next, and what happens at a tick.
+pub mod clock;
+pub mod numbers;
