@@ -1,2 +1,4 @@
 pub mod Text
 pub mod Clock
+pub mod Next
+pub mod Tick

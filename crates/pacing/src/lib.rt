@@ -1,3 +1,5 @@
-//! Which text a connection sends next, and what happens at a tick.
+//! Which text a connection sends next, and what it does at a tick.
 pub mod clock;
+pub mod next;
 pub mod numbers;
+pub mod tick;
