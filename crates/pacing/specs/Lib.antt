@@ -2,3 +2,4 @@ pub mod Text
 pub mod Clock
 pub mod Next
 pub mod Tick
+pub mod Promises

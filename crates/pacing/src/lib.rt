@@ -2,4 +2,5 @@
 pub mod clock;
 pub mod next;
 pub mod numbers;
+pub mod promises;
 pub mod tick;

@@ -1,0 +1,77 @@
+-- What the rules come to, in the words of their subject.
+use mathlib.Core.Path.{_≡_}
+use mathlib.Core.Bool.{Bool, true, false}
+use mathlib.Core.List.{List, [], _∷_}
+use mathlib.Core.Logic.{_⊎_}
+use Prim.Native.Nat.{ℕ, _+_, _<_, _≤_, max}
+use Rattle.std.specs.declared.option.Option.{Option}
+use Rattle.std.specs.declared.option.Option.the-variants.{Some, None}
+use Rattle.timer.specs.Measure.{longest, Timely}
+use Rattle.timer.specs.Opening.{lastTick}
+use Rattle.pacing.specs.declared.numbers.Choice.{Choice}
+use Rattle.pacing.specs.declared.numbers.Numbers.{Numbers}
+use Rattle.pacing.specs.declared.numbers.Why.{Why}
+use Rattle.pacing.specs.declared.clock.Clock.{Clock}
+use Rattle.pacing.specs.declared.next.Pending.{Pending}
+use Rattle.pacing.specs.declared.tick.Act.{Act}
+use Rattle.pacing.specs.Text.{isOpen, owes, finished, count, endOf, isLast, due, answer}
+use Rattle.pacing.specs.Clock.{made, came, restarted, owing, heard, sentText, late}
+use Rattle.pacing.specs.Next.{newText, upToDate, nextText}
+use Rattle.pacing.specs.Tick.{atTick, wake, quiet}
+
+-- what happens to a clock
+pub data Happens : Type 0 where
+  Came : ℕ → Happens
+  Opened : ℕ → Happens
+  Owing : Numbers → Numbers → ℕ → Happens
+  Heard : ℕ → ℕ → ℕ → Happens
+  Sent : Numbers → Choice → ℕ → Happens
+
+abbrev pub happened : Happens → Clock → Clock
+happened (Came now) c = came now c
+happened (Opened now) c = restarted now c
+happened (Owing before after now) c = owing before after now c
+happened (Heard before upto now) c = heard before upto now c
+happened (Sent n t now) c = sentText n t now c
+
+-- the clock of a connection that was made at a tick, after all that happened, the latest first
+unfoldable pub clockAfter : ℕ → List Happens → Clock
+clockAfter start [] = made start
+clockAfter start (h ∷ hs) = happened h (clockAfter start hs)
+
+abbrev pub AlwaysTimely : Type 0
+AlwaysTimely = (start : ℕ) (hs : List Happens) → Timely (clockAfter start hs .wait)
+
+-- one that owes is due at the latest so long after the moment from which its waiting time runs
+abbrev pub OwesSpeaks : Type 0
+OwesSpeaks = (n : Numbers) (start : ℕ) (hs : List Happens) (now : ℕ) → owes n ≡ true → clockAfter start hs .since + longest ≤ now → nextText n (clockAfter start hs) Pending.Tick now ≡ Some (due n Why.Clock)
+
+-- what goes out by the clock has bytes or last, no more being confirmed than was given
+abbrev pub ClockCarries : Type 0
+ClockCarries = (n : Numbers) (c : Clock) (now : ℕ) (t : Choice) → n .upto ≤ n .given → nextText n c Pending.Tick now ≡ Some t → (0 < count n t) ⊎ (isLast n t ≡ true)
+
+abbrev pub SaysAll : Type 0
+SaysAll = (n : Numbers) (c : Clock) (t : Choice) (now : ℕ) → upToDate n (sentText n t now c) ≡ true
+
+abbrev pub Silent : Type 0
+Silent = (n : Numbers) (c : Clock) (now : ℕ) → (nextText n c Pending.Nothing now ≡ None) × (owes n ≡ false → nextText n c Pending.Tick now ≡ None)
+
+abbrev pub BelowSees : Type 0
+BelowSees = (n : Numbers) (c : Clock) → ((0 < count n (answer n) → endOf n (answer n) ≤ n .sees)
+    × ((t : Choice) → newText n c ≡ Some t → 0 < count n t → endOf n t ≤ n .sees))
+    × ((why : Why) → endOf n (due n why) ≤ max (n .sees) (n .upto + 1))
+
+-- a tick before a moment, if there is one
+abbrev pub Before : ℕ → Option ℕ → Type 0
+Before t None = Unit
+Before t (Some w) = t < w
+
+abbrev pub Sleeps : Type 0
+Sleeps = (n : Numbers) (c : Clock) (now t : ℕ) → Timely (c .wait) → now < t → t ≤ lastTick → Before t (wake n c now) → atTick n c t ≡ Act.Nothing
+
+abbrev pub Wakes : Type 0
+Wakes = (n : Numbers) (c : Clock) (now w : ℕ) → wake n c now ≡ Some w → w < lastTick → (now < w) × (atTick n c w ≡ Act.Nothing → ⊥)
+
+abbrev pub Finished : Type 0
+Finished = (n : Numbers) (c : Clock) (now : ℕ) → isOpen (n .stage) ≡ true →
+    (finished n ≡ true → c .touched + quiet ≤ now → atTick n c now ≡ Act.Forget) × (atTick n c now ≡ Act.Forget → (finished n ≡ true) × (c .touched + quiet ≤ now))

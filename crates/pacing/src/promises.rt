@@ -1,0 +1,32 @@
+//! What the rules of sending come to. Nothing here runs: each function is there for its contract, a theorem over specs/.
+ghost use Rattle.pacing.specs.Promises.{AlwaysTimely, OwesSpeaks, ClockCarries, SaysAll, Silent, BelowSees, Sleeps, Wakes, Finished};
+
+/// Waiting times lie between 1,000 and 60,000 ticks, whatever happened. One that owes speaks within 60,000 ticks, and that
+/// text has bytes or last.
+pub fn waiting_promise() -> u8
+    ensures always { λ _. ⌜ AlwaysTimely ⌝ }
+    ensures speaks { λ _. ⌜ OwesSpeaks ⌝ }
+    ensures carries { λ _. ⌜ ClockCarries ⌝ }
+{
+    0
+}
+
+/// Every text tells edge and all as they are. One that owes nothing and is asked nothing sends nothing. Answers and new texts
+/// have no byte at or beyond what is seen; a due text has at most one.
+pub fn text_promise() -> u8
+    ensures says { λ _. ⌜ SaysAll ⌝ }
+    ensures silent { λ _. ⌜ Silent ⌝ }
+    ensures below { λ _. ⌜ BelowSees ⌝ }
+{
+    0
+}
+
+/// Until it wants to be woken a connection does nothing at any tick, and then it does something. A finished one is forgotten
+/// 250,000 ticks after the last packet for it, and not before.
+pub fn tick_promise() -> u8
+    ensures sleeps { λ _. ⌜ Sleeps ⌝ }
+    ensures wakes { λ _. ⌜ Wakes ⌝ }
+    ensures finished { λ _. ⌜ Finished ⌝ }
+{
+    0
+}
