@@ -1,3 +1,4 @@
 pub mod Measure
 pub mod Opening
 pub mod Flight
+pub mod Enough

@@ -1,7 +1,8 @@
 -- When an ask or a yes goes out, and when a connection that isn't open is given up: ticks after the first.
 use mathlib.Core.Bool.{Bool, true, false, cond, _||_}
-use mathlib.Core.List.{List, [], _∷_}
-use Prim.Native.Nat.{ℕ, _+_, _-_, _^_, min}
+use mathlib.Core.List.{List, [], _∷_, map}
+use mathlib.Core.Path.{_≡_}
+use Prim.Native.Nat.{ℕ, _+_, _-_, _*_, _^_, min}
 use lib.Dec.{eqb, ltb}
 
 -- the moments at which it goes out again
@@ -33,3 +34,7 @@ tickAfter a b = min lastTick (a + b)
 -- the next moment at which it goes out again or is given up; the next tick, where that time has passed
 abbrev pub nextMoment : ℕ → ℕ → ℕ
 nextMoment start now = tickAfter start (firstAfter (now - start) again (cond (ltb (now - start) patience) patience (now - start + 1)))
+
+-- the first, and those after 1, 3, 7, .. seconds: eight in all
+abbrev pub EightMoments : Type 0
+EightMoments = (0 ∷ again ≡ map (λ k. 1000 * (2 ^ k - 1)) (0 ∷ 1 ∷ 2 ∷ 3 ∷ 4 ∷ 5 ∷ 6 ∷ 7 ∷ [])) × ((start later : ℕ) → repeats start (start + later) ≡ among later again)

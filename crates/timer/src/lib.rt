@@ -2,3 +2,4 @@
 pub mod flight;
 pub mod measures;
 pub mod opening;
+pub mod promises;

@@ -77,10 +77,3 @@ pub fn doubled(wait: u64) -> u64
 {
     wait.saturating_mul(2).min(LONGEST)
 }
-
-/// Round trips of 100 and 140 ticks, worked out.
-pub fn worked_measures() -> u8
-    ensures { λ _. ⌜ spec.WorkedMeasures ⌝ }
-{
-    0
-}
