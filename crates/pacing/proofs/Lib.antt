@@ -1,3 +1,4 @@
 pub mod Waiting
 pub mod Saying
 pub mod Waking
+pub mod Moments

@@ -13,7 +13,7 @@ use Rattle.pacing.specs.declared.clock.Clock.{Clock}
 use Rattle.pacing.specs.declared.tick.Act.{Act}
 use Rattle.pacing.specs.Text.{owes, finished}
 use Rattle.pacing.specs.Tick.{tickIn, openTick, wakeIn, wakeAt, soonest, quiet}
-use Rattle.pacing.specs.Promises.{Before, Sleeps, Wakes, Finished}
+use Rattle.pacing.specs.Promises.{Before, Sleeps, Wakes, Finished, OpeningMoments}
 
 open-sleeps : (n : Numbers) (c : Clock) (now t : ℕ) → Timely (c .wait) → now < t → t ≤ lastTick → (f o : Bool) → finished n ≡ f → owes n ≡ o → Before t (soonest f (wakeAt now (c .touched) quiet) o (wakeAt now (c .since) (c .wait))) → openTick n c t ≡ Act.Nothing
 open-sleeps n c now t w l k true true p q b = grind (arith, tells)
@@ -34,3 +34,6 @@ wakes n c now w e l = (grind (arith, tells), λ z. grind (arith, tells))
 
 pub finishes : Finished
 finishes n c now o = ((λ f l. grind (arith, tells)), λ a. (grind (arith, tells), grind (arith, tells)))
+
+pub opening-moments : OpeningMoments
+opening-moments n c later o = ((λ a. grind (arith, tells)), (λ a. grind (arith, tells)), (λ l. grind (arith, tells)))

@@ -3,3 +3,4 @@ pub mod Clock
 pub mod Next
 pub mod Tick
 pub mod Promises
+pub mod Moment

@@ -7,9 +7,10 @@ use Prim.Native.Nat.{ℕ, _+_, _<_, _≤_, max}
 use Rattle.std.specs.declared.option.Option.{Option}
 use Rattle.std.specs.declared.option.Option.the-variants.{Some, None}
 use Rattle.timer.specs.Measure.{longest, Timely}
-use Rattle.timer.specs.Opening.{lastTick}
+use Rattle.timer.specs.Opening.{lastTick, among, again, patience}
 use Rattle.pacing.specs.declared.numbers.Choice.{Choice}
 use Rattle.pacing.specs.declared.numbers.Numbers.{Numbers}
+use Rattle.pacing.specs.declared.numbers.Stage.{Stage}
 use Rattle.pacing.specs.declared.numbers.Why.{Why}
 use Rattle.pacing.specs.declared.clock.Clock.{Clock}
 use Rattle.pacing.specs.declared.next.Pending.{Pending}
@@ -75,3 +76,8 @@ Wakes = (n : Numbers) (c : Clock) (now w : ℕ) → wake n c now ≡ Some w → 
 abbrev pub Finished : Type 0
 Finished = (n : Numbers) (c : Clock) (now : ℕ) → isOpen (n .stage) ≡ true →
     (finished n ≡ true → c .touched + quiet ≤ now → atTick n c now ≡ Act.Forget) × (atTick n c now ≡ Act.Forget → (finished n ≡ true) × (c .touched + quiet ≤ now))
+
+-- one that isn't open sends its ask or yes again at the moments for that, and is given up after 160,000 ticks
+abbrev pub OpeningMoments : Type 0
+OpeningMoments = (n : Numbers) (c : Clock) (later : ℕ) → n .stage ≡ Stage.Opening →
+    (among later again ≡ true → atTick n c (c .first + later) ≡ Act.Repeat) × (atTick n c (c .first + later) ≡ Act.Repeat → among later again ≡ true) × (patience ≤ later → atTick n c (c .first + later) ≡ Act.GiveUp)

@@ -1,5 +1,6 @@
 //! What the rules of sending come to. Nothing here runs: each function is there for its contract, a theorem over specs/.
-ghost use Rattle.pacing.specs.Promises.{AlwaysTimely, OwesSpeaks, ClockCarries, SaysAll, Silent, BelowSees, Sleeps, Wakes, Finished};
+ghost use Rattle.pacing.specs.Promises.{AlwaysTimely, OwesSpeaks, ClockCarries, SaysAll, Silent, BelowSees, Sleeps, Wakes, Finished, OpeningMoments};
+ghost use Rattle.pacing.specs.Moment.{OneMoment, AtMostSeventeen};
 
 /// Waiting times lie between 1,000 and 60,000 ticks, whatever happened. One that owes speaks within 60,000 ticks, and that
 /// text has bytes or last.
@@ -21,12 +22,22 @@ pub fn text_promise() -> u8
     0
 }
 
+/// At one moment the answer goes out first, then at most sixteen new texts, and a due text only where nothing else does;
+/// never more than seventeen.
+pub fn moment_promise() -> u8
+    ensures order { λ _. ⌜ OneMoment ⌝ }
+    ensures few { λ _. ⌜ AtMostSeventeen ⌝ }
+{
+    0
+}
+
 /// Until it wants to be woken a connection does nothing at any tick, and then it does something. A finished one is forgotten
-/// 250,000 ticks after the last packet for it, and not before.
+/// 250,000 ticks after the last packet for it, and not before. Asks and yeses are repeated at their moments and no others.
 pub fn tick_promise() -> u8
     ensures sleeps { λ _. ⌜ Sleeps ⌝ }
     ensures wakes { λ _. ⌜ Wakes ⌝ }
     ensures finished { λ _. ⌜ Finished ⌝ }
+    ensures opening { λ _. ⌜ OpeningMoments ⌝ }
 {
     0
 }
