@@ -1,30 +1,30 @@
 -- The texts of one moment, one after the other.
-use mathlib.Core.Path.{_≡_, refl, sym, ap, _∙_}
-use mathlib.Core.Bool.{Bool, true, false, cond, not, _&&_, _||_}
-use mathlib.Core.List.{List, [], _∷_, map}
+use mathlib.Core.Path.{_≡_, refl, ap, _∙_}
+use mathlib.Core.Bool.{Bool, true, false, cond, not, _||_}
+use mathlib.Core.List.{List, [], _∷_}
 use mathlib.Core.Logic.{_⊎_, inl, inr, ⊎-elim}
-use Prim.Native.Nat.{ℕ, zero, suc, _+_, _-_, _<_, _≤_, min, max}
+use Prim.Native.Nat.{ℕ, zero, suc, _-_, _<_, _≤_, min, max}
 use native.Mathlib.Omega.{arith}
-use lib.Dec.{eqb, ltb}
-use lib.ListN.{length, replicate}
+use lib.Dec.{ltb}
+use lib.ListN.{length}
 use Rattle.std.proofs.shelf.Lists.{length-map, length-replicate}
 use Rattle.std.proofs.shelf.Tests.{cond-both, cases-lt}
 use Rattle.std.proofs.shelf.Ways.{tells}
 use Rattle.std.specs.declared.option.Option.{Option}
 use Rattle.std.specs.declared.option.Option.the-variants.{Some, None}
 use Rattle.timer.specs.declared.flight.Row.{Row}
-use Rattle.timer.specs.Flight.{sentRows, settled, full, blank}
-use Rattle.timer.proofs.Counts.{above, Rising}
-use Rattle.timer.proofs.Ordered.{Ordered, ordered-sent, ordered-settled, ordered-blank, above-sent, above-most, full-above, full-stays}
+use Rattle.timer.specs.Flight.{sentRows, full}
+use Rattle.timer.proofs.Counts.{above}
+use Rattle.timer.proofs.Ordered.{Ordered, ordered-sent, ordered-settled, ordered-blank, above-sent, full-above, full-stays}
 use Rattle.pacing.specs.declared.numbers.Choice.{Choice}
 use Rattle.pacing.specs.declared.numbers.Numbers.{Numbers}
 use Rattle.pacing.specs.declared.numbers.Why.{Why}
 use Rattle.pacing.specs.declared.clock.Clock.{Clock}
 use Rattle.pacing.specs.declared.next.Pending.{Pending}
 use Rattle.pacing.specs.declared.next.Pending.the-variants.{Nothing, Answer, AnswerThenSpeak, Speak, Due, Tick}
-use Rattle.pacing.specs.Text.{isOpen, endOf, isLast, due, answer}
-use Rattle.pacing.specs.Clock.{made, restarted, heard, owing, sentText, saying, byClock, withBytes, withLast, isClock}
-use Rattle.pacing.specs.Next.{newText, nextText, upToDate, after, speaks}
+use Rattle.pacing.specs.Text.{endOf, isLast, due, answer}
+use Rattle.pacing.specs.Clock.{restarted, sentText, saying, byClock, withBytes, withLast, isClock}
+use Rattle.pacing.specs.Next.{newOf, newText, nextText, upToDate, after}
 use Rattle.pacing.specs.Promises.{Happens, happened, Came, Opened, Owing, Heard, Sent, clockAfter}
 use Rattle.pacing.specs.Moment.{listFrom, texts, whys, UpTo, Goes, OneMoment, AtMostSeventeen}
 use Rattle.pacing.proofs.Saying.{says-all, silent}
@@ -56,12 +56,6 @@ flying start (h ∷ hs) = flying-happened h (clockAfter start hs) (flying start 
 -- a new text goes out only while not all sixteen rows are under way
 new-free : (n : Numbers) (c : Clock) (t : Choice) → newText n c ≡ Some t → (full (n .upto) (c .flight .rows) ≡ false) × (t .why ≡ Why.New)
 new-free n c t e = (grind (arith, tells), grind (arith, tells))
-
--- a new text is chosen by these alone
-abbrev newOf : Numbers → ℕ → Bool → List Row → Option Choice
-newOf n s b rows = cond (full (n .upto) rows) None
-    (cond (ltb 0 (min (min (n .size) (n .sees - max s (n .upto))) (n .given - max s (n .upto)))) (Some (record { place = max s (n .upto); most = min (min (n .size) (n .sees - max s (n .upto))) (n .given - max s (n .upto)); why = Why.New }))
-    (cond (eqb (max s (n .upto)) (n .given) && n .closed && not (n .all) && not b) (Some (record { place = max s (n .upto); most = 0; why = Why.New })) None))
 
 new-with : (n : Numbers) (c : Clock) (s : ℕ) (b : Bool) (rows : List Row) → c .sent ≡ s → c .ended ≡ b → c .flight .rows ≡ rows → newText n c ≡ newOf n s b rows
 new-with n c s b rows p q r = ap (λ x. newOf n x (c .ended) (c .flight .rows)) p ∙ ap (λ x. newOf n s x (c .flight .rows)) q ∙ ap (λ x. newOf n s b x) r

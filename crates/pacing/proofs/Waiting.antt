@@ -1,22 +1,16 @@
 -- Waiting times, and texts by the clock.
-use mathlib.Core.Path.{_≡_, refl, sym, ap, _∙_}
-use mathlib.Core.Bool.{Bool, true, false, cond}
-use mathlib.Core.List.{List, [], _∷_}
-use mathlib.Core.Logic.{_⊎_, inl, inr}
-use Prim.Native.Nat.{ℕ, _+_, _<_, _≤_, max, min}
+use mathlib.Core.List.{[], _∷_}
+use Prim.Native.Nat.{ℕ}
 use native.Mathlib.Omega.{arith}
 use Rattle.std.proofs.shelf.Tests.{cond-both}
 use Rattle.std.proofs.shelf.Ways.{tells}
 use Rattle.std.specs.declared.option.Option.{Option}
 use Rattle.std.specs.declared.option.Option.the-variants.{Some, None}
 use Rattle.timer.specs.declared.measures.Measures.{Measures}
-use Rattle.timer.specs.Measure.{Timely, waiting, doubled, longest}
+use Rattle.timer.specs.Measure.{Timely, waiting, doubled}
 use Rattle.timer.specs.Flight.{measuredBy}
-use Rattle.pacing.specs.declared.numbers.Choice.{Choice}
-use Rattle.pacing.specs.declared.numbers.Numbers.{Numbers}
 use Rattle.pacing.specs.declared.clock.Clock.{Clock}
-use Rattle.pacing.specs.Text.{owes, count, isLast, endOf}
-use Rattle.pacing.specs.Clock.{owing, heard, sentText, saying, byClock, withBytes, withLast, isClock, restarted, late}
+use Rattle.pacing.specs.Clock.{restarted}
 use Rattle.pacing.specs.Promises.{Happens, happened, Came, Opened, Owing, Heard, Sent, clockAfter, AlwaysTimely, OwesSpeaks, ClockCarries}
 
 waiting-timely : (m : Option Measures) → Timely (waiting m)

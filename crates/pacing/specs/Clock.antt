@@ -1,8 +1,8 @@
 -- A connection's clock: what each thing that happens does to it.
-use mathlib.Core.Bool.{Bool, true, false, cond, not, _&&_, _||_}
+use mathlib.Core.Bool.{Bool, true, false, cond, not, _&&_}
 use mathlib.Core.List.{map}
 use Prim.Native.Nat.{ℕ, _-_, min, max}
-use lib.Dec.{eqb, ltb}
+use lib.Dec.{ltb}
 use lib.ListN.{replicate}
 use Rattle.std.specs.declared.option.Option.the-variants.{Some, None}
 use Rattle.timer.specs.Measure.{shortest, waiting, doubled}

@@ -1,10 +1,11 @@
 -- Which text is next at a moment, and why.
 use mathlib.Core.Bool.{Bool, true, false, cond, not, _&&_}
-use mathlib.Core.List.{List, [], _∷_}
-use Prim.Native.Nat.{ℕ, suc, _-_, min, max}
+use mathlib.Core.List.{List}
+use Prim.Native.Nat.{ℕ, _-_, min, max}
 use lib.Dec.{eqb, ltb}
 use Rattle.std.specs.declared.option.Option.{Option}
 use Rattle.std.specs.declared.option.Option.the-variants.{Some, None}
+use Rattle.timer.specs.declared.flight.Row.{Row}
 use Rattle.timer.specs.Flight.{full}
 use Rattle.pacing.specs.declared.numbers.Choice.{Choice}
 use Rattle.pacing.specs.declared.numbers.Numbers.{Numbers}
@@ -14,7 +15,7 @@ use Rattle.pacing.specs.declared.clock.Clock.{Clock}
 use Rattle.pacing.specs.declared.next.Pending.{Pending}
 use Rattle.pacing.specs.declared.next.Pending.the-variants.{Nothing, Answer, AnswerThenSpeak, Speak, Due, Tick}
 use Rattle.pacing.specs.Text.{isOpen, due, answer}
-use Rattle.pacing.specs.Clock.{late, sentText}
+use Rattle.pacing.specs.Clock.{late}
 
 -- what a text that came asks for, by whether it had bytes or last, and whether it brought a larger edge or upto
 abbrev pub asked : Bool → Bool → Pending
@@ -30,21 +31,26 @@ after Speak = Speak
 after Due = Nothing
 after Tick = Nothing
 
--- the first place not sent yet, and how many bytes from there on may be sent in one text
-abbrev pub fresh : Numbers → Clock → ℕ
-fresh n c = max (c .sent) (n .upto)
+-- the first place not sent yet, the bytes below `sent` having been
+abbrev pub fresh : Numbers → ℕ → ℕ
+fresh n sent = max sent (n .upto)
 
-abbrev pub may : Numbers → Clock → ℕ
-may n c = min (min (n .size) (n .sees - fresh n c)) (n .given - fresh n c)
+-- how many bytes from there on may be sent in one text
+abbrev pub may : Numbers → ℕ → ℕ
+may n sent = min (min (n .size) (n .sees - fresh n sent)) (n .given - fresh n sent)
 
--- the end is still to be sent, and all before it was
-abbrev pub endLeft : Numbers → Clock → Bool
-endLeft n c = eqb (fresh n c) (n .given) && n .closed && not (n .all) && not (c .ended)
+-- all before the end was sent, and the end wasn't
+abbrev pub endLeft : Numbers → ℕ → Bool → Bool
+endLeft n sent ended = eqb (fresh n sent) (n .given) && n .closed && not (n .all) && not ended
+
+abbrev pub newOf : Numbers → ℕ → Bool → List Row → Option Choice
+newOf n sent ended rows =
+    cond (full (n .upto) rows) None
+    (cond (ltb 0 (may n sent)) (Some (record { place = fresh n sent; most = may n sent; why = Why.New }))
+    (cond (endLeft n sent ended) (Some (record { place = fresh n sent; most = 0; why = Why.New })) None))
 
 abbrev pub newText : Numbers → Clock → Option Choice
-newText n c = cond (full (n .upto) (c .flight .rows)) None
-    (cond (ltb 0 (may n c)) (Some (record { place = fresh n c; most = may n c; why = Why.New }))
-    (cond (endLeft n c) (Some (record { place = fresh n c; most = 0; why = Why.New })) None))
+newText n c = newOf n (c .sent) (c .ended) (c .flight .rows)
 
 abbrev pub same : Bool → Bool → Bool
 same a b = cond a b (not b)

@@ -1,6 +1,6 @@
 -- What the rules come to, in the words of their subject.
 use mathlib.Core.Path.{_≡_}
-use mathlib.Core.Bool.{Bool, true, false}
+use mathlib.Core.Bool.{true, false}
 use mathlib.Core.List.{List, [], _∷_}
 use mathlib.Core.Logic.{_⊎_}
 use Prim.Native.Nat.{ℕ, _+_, _<_, _≤_, max}
@@ -16,7 +16,7 @@ use Rattle.pacing.specs.declared.clock.Clock.{Clock}
 use Rattle.pacing.specs.declared.next.Pending.{Pending}
 use Rattle.pacing.specs.declared.tick.Act.{Act}
 use Rattle.pacing.specs.Text.{isOpen, owes, finished, count, endOf, isLast, due, answer}
-use Rattle.pacing.specs.Clock.{made, came, restarted, owing, heard, sentText, late}
+use Rattle.pacing.specs.Clock.{made, came, restarted, owing, heard, sentText}
 use Rattle.pacing.specs.Next.{newText, upToDate, nextText}
 use Rattle.pacing.specs.Tick.{atTick, wake, quiet}
 

@@ -1,11 +1,11 @@
 -- The texts of a connection, over its numbers.
-use mathlib.Core.Bool.{Bool, true, false, cond, not, _&&_, _||_}
+use mathlib.Core.Bool.{Bool, true, false, not, _&&_, _||_}
 use Prim.Native.Nat.{ℕ, _+_, _-_, min, max}
 use lib.Dec.{eqb, ltb}
 use Rattle.pacing.specs.declared.numbers.Stage.{Stage}
 use Rattle.pacing.specs.declared.numbers.Stage.the-variants.{Opening, Open, Gone}
 use Rattle.pacing.specs.declared.numbers.Why.{Why}
-use Rattle.pacing.specs.declared.numbers.Why.the-variants.{Answer, New, Due, Clock}
+use Rattle.pacing.specs.declared.numbers.Why.the-variants.{Answer}
 use Rattle.pacing.specs.declared.numbers.Choice.{Choice}
 use Rattle.pacing.specs.declared.numbers.Numbers.{Numbers}
 

@@ -1,7 +1,7 @@
 -- What a connection does at a tick, and when it next wants to be woken.
 use mathlib.Core.Bool.{Bool, true, false, cond, not, _&&_}
 use Prim.Native.Nat.{ℕ, _-_, min, max}
-use lib.Dec.{eqb, ltb}
+use lib.Dec.{ltb}
 use Rattle.std.specs.declared.option.Option.{Option}
 use Rattle.std.specs.declared.option.Option.the-variants.{Some, None}
 use Rattle.timer.specs.Opening.{repeats, patience, nextMoment, tickAfter}

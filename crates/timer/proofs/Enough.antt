@@ -1,21 +1,20 @@
 -- Sixteen rows are enough.
 use mathlib.Core.Path.{_≡_, refl, sym, ap, _∙_}
-use mathlib.Core.Bool.{Bool, true, false, cond, not}
-use mathlib.Core.List.{List, [], _∷_, _++_, map}
+use mathlib.Core.Bool.{Bool, true, false, not}
+use mathlib.Core.List.{List, [], _∷_, map}
 use mathlib.Core.Logic.{_⊎_, inl, inr, ⊎-elim}
-use Prim.Native.Nat.{ℕ, zero, suc, _+_, _-_, _<_, _≤_, min, max}
+use Prim.Native.Nat.{ℕ, zero, suc, _-_, _<_, _≤_, min, max}
 use native.Mathlib.Omega.{arith}
 use lib.Dec.{ltb}
-use lib.ListN.{length, drop, replicate, getD}
-use Rattle.std.proofs.shelf.Tests.{cond-both, ltb-true, ltb-false}
+use lib.ListN.{length, drop, replicate}
+use Rattle.std.proofs.shelf.Tests.{cond-both, ltb-true}
 use Rattle.std.proofs.shelf.Ways.{tells}
-use Rattle.std.proofs.shelf.Lists.{length-map, length-drop, length-append}
-use Rattle.std.specs.declared.option.Option.{Option}
-use Rattle.timer.specs.declared.measures.Measures.{Measures}
+use Rattle.std.proofs.shelf.Lists.{length-map, length-append}
 use Rattle.timer.specs.declared.flight.Row.{Row}
-use Rattle.timer.specs.Flight.{blank, unclean, resent, settled, insert, pushed, sentRows, full, shares, measuredBy}
+use Rattle.timer.specs.Flight.{blank, unclean, resent, settled, insert, full, shares}
 use Rattle.timer.specs.Enough.{Way, Move, Sends, Clears, Confirms, moved, held, beyond, wayAfter, heldAfter, Allowed, Lawful, Enough, SixteenSuffice}
-use Rattle.timer.proofs.Counts.{above, Rising, cleans, apart, above-resent, above-settled, above-push, above-insert, above-beyond, beyond-all, above-few, above-falls, above-drop, full-all, rising-resent, rising-settled, rising-insert, rising-drop, length-insert, cleans-resent, cleans-settled, cleans-beyond, cleans-push, cleans-more, measured-cleans}
+use Rattle.timer.proofs.Counts.{above, cleans, above-resent, above-settled, above-push, above-insert, above-beyond, beyond-all, above-falls, above-drop, length-insert, cleans-resent, cleans-settled, cleans-beyond, cleans-push, cleans-more, measured-cleans}
+use Rattle.timer.proofs.Ordered.{Ordered, ordered-blank, ordered-sent, ordered-settled, rising-sent, full-above}
 
 -- each clean row has bytes that aren't confirmed
 abbrev Sound : ℕ → List Row → Type 0
@@ -23,8 +22,7 @@ Sound u [] = Unit
 Sound u (r ∷ rs) = (r .clean ≡ true → (u < r .end) × (r .place < r .end)) × Sound u rs
 
 record Kept (w : Way) (ks : List Row) : Type 0 where
-  size : length ks ≡ 16
-  rising : Rising 0 ks
+  ordered : Ordered ks
   same : (u : ℕ) → w .upto ≤ u → min 16 (above u (w .rows)) ≡ above u ks
   clean : cleans (w .rows) ≡ cleans ks
   far : above (w .upto) (w .rows) ≡ length (w .rows)
@@ -61,10 +59,6 @@ unfolding insert above cleans
 head-unclean p e high upto x [] a b l z s h k = absurd (omega arith)
 head-unclean p e high upto x (y ∷ xs) a b l z (s, _) h k = ⊎-elim (λ q. grind (arith, tells)) (λ q. grind (arith, tells)) k
 
-rising-blank : (n : ℕ) → Rising 0 (replicate n blank)
-rising-blank zero = tt
-rising-blank (suc n) = (omega arith, rising-blank n)
-
 above-blank : (u n : ℕ) → above u (replicate n blank) ≡ 0
 unfolding above
 above-blank u zero = refl
@@ -82,8 +76,7 @@ sound-blank u (suc n) = ((λ b. absurd (never b)), sound-blank u n)
 kept-blank : (w : Way) → w .rows ≡ [] → Kept w (replicate 16 blank)
 unfolding above cleans
 kept-blank w e = record {
-  size = refl;
-  rising = rising-blank 16;
+  ordered = ordered-blank;
   same = (λ u l. let a = above-blank u 16 in rw e (omega arith));
   clean = ap cleans e ∙ sym (cleans-blank 16);
   far = rw e refl;
@@ -93,7 +86,7 @@ kept-blank w e = record {
 
 kept-enough : (w : Way) (ks : List Row) → Kept w ks → Enough w ks
 kept-enough w ks k = record {
-  few = (let f = full-all (w .upto) 0 ks (k .rising) (k .size) in let s = k .same (w .upto) (omega arith) in let a = k .far in grind (arith, tells));
+  few = (let f = full-above (w .upto) ks (k .ordered) in let s = k .same (w .upto) (omega arith) in let a = k .far in grind (arith, tells));
   measures = (λ upto now m. let a = measured-cleans upto now m (w .rows) in let b = measured-cleans upto now m ks in let e = k .clean in cc);
 }
 
@@ -102,15 +95,14 @@ unfolding above
 kept-sends p e now w ks (a, b, d) k =
     let x : Row = record { place = p; end = e; time = now; clean = not (ltb p (w .high)) } in
     let ys = map (resent p e) ks in
-    let rising = rising-insert 0 x ys (rising-resent p e 0 ks (k .rising)) (omega arith) in
+    let rising = rising-sent p e x ks (k .ordered) in
     let size = length-map ks (resent p e) in
     let sizes = length-insert x ys in
     record {
-      size = (let l = length-drop 1 (insert x ys) in let m = k .size in omega arith);
-      rising = rising-drop 0 (insert x ys) rising;
-      same = (λ u h. let f = above-push u x (map (resent p e) (w .rows)) in let g = above-resent u p e (w .rows) in let j = above-drop u 0 (insert x ys) rising in let i = above-insert u x ys in let o = above-resent u p e ks in let q = k .same u h in let m = k .size in grind (arith, tells));
+      ordered = ordered-sent (w .high) p e now ks (k .ordered);
+      same = (λ u h. let f = above-push u x (map (resent p e) (w .rows)) in let g = above-resent u p e (w .rows) in let j = above-drop u 0 (insert x ys) rising in let i = above-insert u x ys in let o = above-resent u p e ks in let q = k .same u h in let m = k .ordered .size in grind (arith, tells));
       clean = (let f = cleans-push x (map (resent p e) (w .rows)) in let g = cleans-resent p e (w .rows) in let j = cleans-resent p e ks in let o = k .clean in
-          let i = head-unclean p e (w .high) (w .upto) x ks refl refl b (omega (arith, k .size)) (k .sound) (k .low) (⊎-elim inl (λ q. inr (let n = kept-enough w ks k .few in grind (arith, tells))) d) in
+          let i = head-unclean p e (w .high) (w .upto) x ks refl refl b (omega (arith, k .ordered .size)) (k .sound) (k .low) (⊎-elim inl (λ q. inr (let n = kept-enough w ks k .few in grind (arith, tells))) d) in
           let m = cleans-more (w .high) x ys (above-resent (w .high) p e ks ∙ k .low) (λ t. grind (arith, tells)) in cc);
       far = (let f = above-push (w .upto) x (map (resent p e) (w .rows)) in let g = above-resent (w .upto) p e (w .rows) in let j = k .far in let i = length-append (map (resent p e) (w .rows)) (x ∷ []) in let o = length-map (w .rows) (resent p e) in grind (arith, tells));
       low = (let h = max (w .high) e in let j = above-drop h 0 (insert x ys) rising in let i = above-insert h x ys in let o = above-resent h p e ks in let q = above-falls (w .high) h ks (omega arith) in let m = k .low in grind (arith, tells));
@@ -119,8 +111,7 @@ kept-sends p e now w ks (a, b, d) k =
 
 kept-confirms : (u : ℕ) (w : Way) (ks : List Row) → Kept w ks → Kept (moved (Confirms u) w) (held (Confirms u) w ks)
 kept-confirms u w ks k = let v = max (w .upto) u in record {
-  size = length-map ks (settled v) ∙ k .size;
-  rising = rising-settled v 0 ks (k .rising);
+  ordered = ordered-settled v ks (k .ordered);
   same = (λ t h. let a = above-beyond t v (w .rows) (omega arith) in let b = above-settled t v ks in let d = k .same t (omega arith) in omega arith);
   clean = cleans-beyond v (w .rows) ∙ ap (beyond v) (k .clean) ∙ sym (cleans-settled v ks);
   far = beyond-all v (w .rows);

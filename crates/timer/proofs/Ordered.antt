@@ -5,7 +5,7 @@ use mathlib.Core.List.{List, map}
 use Prim.Native.Nat.{ℕ, zero, suc, _+_, _-_, _<_, _≤_, min}
 use native.Mathlib.Omega.{arith}
 use lib.Dec.{ltb}
-use lib.ListN.{length, drop, replicate}
+use lib.ListN.{length, replicate}
 use Rattle.std.proofs.shelf.Lists.{length-map, length-drop}
 use Rattle.std.proofs.shelf.Ways.{tells}
 use Rattle.timer.specs.declared.flight.Row.{Row}
@@ -26,7 +26,7 @@ ordered-blank = record { size = refl; rising = rising-blank 16 }
 pub ordered-settled : (v : ℕ) (ks : List Row) → Ordered ks → Ordered (map (settled v) ks)
 ordered-settled v ks o = record { size = length-map ks (settled v) ∙ o .size; rising = rising-settled v 0 ks (o .rising) }
 
-rising-sent : (p e : ℕ) (x : Row) (ks : List Row) → Ordered ks → Rising 0 (insert x (map (resent p e) ks))
+pub rising-sent : (p e : ℕ) (x : Row) (ks : List Row) → Ordered ks → Rising 0 (insert x (map (resent p e) ks))
 rising-sent p e x ks o = rising-insert 0 x (map (resent p e) ks) (rising-resent p e 0 ks (o .rising)) (omega arith)
 
 pub ordered-sent : (high p e now : ℕ) (ks : List Row) → Ordered ks → Ordered (sentRows high p e now ks)

@@ -1,6 +1,6 @@
 -- Sixteen rows are enough: they tell whether fewer than sixteen texts are under way, and give the same measures, as all rows would.
 use mathlib.Core.Path.{_≡_}
-use mathlib.Core.Bool.{Bool, true, false, cond, not}
+use mathlib.Core.Bool.{cond, not}
 use mathlib.Core.List.{List, [], _∷_, _++_, map}
 use mathlib.Core.Logic.{_⊎_}
 use Prim.Native.Nat.{ℕ, _<_, _≤_, max}

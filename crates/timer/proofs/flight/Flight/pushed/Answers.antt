@@ -1,11 +1,10 @@
 use mathlib.Core.Path.{_≡_, sym, _∙_, ap}
-use mathlib.Core.List.{_++_}
-use Prim.Native.Nat.{_+_, _≤_}
+use Prim.Native.Nat.{_+_}
 use native.Mathlib.Omega.{arith}
 use borrow.Author.Needs.{needs}
-use lib.ListN.{length, take, drop, getD, set}
+use lib.ListN.{length, getD, set}
 use Rattle.std.proofs.shelf.Lists.{length-set}
-use Rattle.timer.specs.Flight.{blank, pushed}
+use Rattle.timer.specs.Flight.{blank}
 use Rattle.timer.proofs.Rows.{pushed-low, pushed-here, pushed-on, next-same, pushed-last}
 use Rattle.timer.proofs.flight.Flight.pushed.Needs as need
 
