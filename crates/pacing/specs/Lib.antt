@@ -4,3 +4,4 @@ pub mod Next
 pub mod Tick
 pub mod Promises
 pub mod Moment
+pub mod UnderWay

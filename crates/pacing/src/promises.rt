@@ -1,6 +1,7 @@
 //! What the rules of sending come to. Nothing here runs: each function is there for its contract, a theorem over specs/.
 ghost use Rattle.pacing.specs.Promises.{AlwaysTimely, OwesSpeaks, ClockCarries, SaysAll, Silent, BelowSees, Sleeps, Wakes, Finished, OpeningMoments};
 ghost use Rattle.pacing.specs.Moment.{OneMoment, AtMostSeventeen};
+ghost use Rattle.pacing.specs.UnderWay.{RowsEnough, NewWhenFew};
 
 /// Waiting times lie between 1,000 and 60,000 ticks, whatever happened. One that owes speaks within 60,000 ticks, and that
 /// text has bytes or last.
@@ -27,6 +28,15 @@ pub fn text_promise() -> u8
 pub fn moment_promise() -> u8
     ensures order { λ _. ⌜ OneMoment ⌝ }
     ensures few { λ _. ⌜ AtMostSeventeen ⌝ }
+{
+    0
+}
+
+/// Fewer than sixteen texts are under way when a new one goes out; the rows that a clock holds tell that, and give the same
+/// measures, as all rows would.
+pub fn flight_promise() -> u8
+    ensures enough { λ _. ⌜ RowsEnough ⌝ }
+    ensures few { λ _. ⌜ NewWhenFew ⌝ }
 {
     0
 }
