@@ -1,7 +1,12 @@
 -- What texts say, and which bytes they have.
+use mathlib.Core.Bool.{true, false}
 use native.Mathlib.Omega.{arith}
 use Rattle.std.proofs.shelf.Ways.{tells}
-use Rattle.pacing.specs.Promises.{SaysAll, Silent, BelowSees}
+use Rattle.pacing.specs.Promises.{Answered, SaysAll, Silent, BelowSees}
+
+pub answered : Answered
+answered n c true now o = grind (arith, tells)
+answered n c false now o = grind (arith, tells)
 
 pub says-all : SaysAll
 says-all n c t now = grind (arith, tells)

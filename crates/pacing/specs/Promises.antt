@@ -1,12 +1,12 @@
 -- What the rules come to, in the words of their subject.
 use mathlib.Core.Path.{_≡_}
-use mathlib.Core.Bool.{true, false}
+use mathlib.Core.Bool.{Bool, true, false}
 use mathlib.Core.List.{List, [], _∷_}
 use mathlib.Core.Logic.{_⊎_}
 use Prim.Native.Nat.{ℕ, _+_, _<_, _≤_, max}
 use Rattle.std.specs.declared.option.Option.{Option}
 use Rattle.std.specs.declared.option.Option.the-variants.{Some, None}
-use Rattle.timer.specs.Measure.{longest, Timely}
+use Rattle.timer.specs.Measure.{longest, doubled, Timely}
 use Rattle.timer.specs.Opening.{lastTick, among, again, patience}
 use Rattle.pacing.specs.declared.numbers.Choice.{Choice}
 use Rattle.pacing.specs.declared.numbers.Numbers.{Numbers}
@@ -17,7 +17,7 @@ use Rattle.pacing.specs.declared.next.Pending.{Pending}
 use Rattle.pacing.specs.declared.tick.Act.{Act}
 use Rattle.pacing.specs.Text.{isOpen, owes, finished, count, endOf, isLast, due, answer}
 use Rattle.pacing.specs.Clock.{made, came, restarted, owing, heard, sentText}
-use Rattle.pacing.specs.Next.{newText, upToDate, nextText}
+use Rattle.pacing.specs.Next.{asked, newText, upToDate, nextText}
 use Rattle.pacing.specs.Tick.{atTick, wake, quiet}
 
 -- what happens to a clock
@@ -51,12 +51,23 @@ OwesSpeaks = (n : Numbers) (start : ℕ) (hs : List Happens) (now : ℕ) → owe
 abbrev pub ClockCarries : Type 0
 ClockCarries = (n : Numbers) (c : Clock) (now : ℕ) (t : Choice) → n .upto ≤ n .given → nextText n c Pending.Tick now ≡ Some t → (0 < count n t) ⊎ (isLast n t ≡ true)
 
+-- and it starts the waiting time again, doubled
+abbrev pub ClockRestarts : Type 0
+ClockRestarts = (n : Numbers) (c : Clock) (now : ℕ) (t : Choice) → n .upto ≤ n .given → nextText n c Pending.Tick now ≡ Some t → (sentText n t now c .since ≡ now) × (sentText n t now c .wait ≡ doubled (c .wait))
+
+-- a text that had bytes or last is answered at once
+abbrev pub Answered : Type 0
+Answered = (n : Numbers) (c : Clock) (grew : Bool) (now : ℕ) → isOpen (n .stage) ≡ true → nextText n c (asked true grew) now ≡ Some (answer n)
+
+-- after any text, edge and all are said as they are
 abbrev pub SaysAll : Type 0
 SaysAll = (n : Numbers) (c : Clock) (t : Choice) (now : ℕ) → upToDate n (sentText n t now c) ≡ true
 
+-- one that owes nothing and is asked nothing sends nothing
 abbrev pub Silent : Type 0
 Silent = (n : Numbers) (c : Clock) (now : ℕ) → (nextText n c Pending.Nothing now ≡ None) × (owes n ≡ false → nextText n c Pending.Tick now ≡ None)
 
+-- no byte of an answer or of a new text is at or beyond what is seen, and one of a due text at most
 abbrev pub BelowSees : Type 0
 BelowSees = (n : Numbers) (c : Clock) → ((0 < count n (answer n) → endOf n (answer n) ≤ n .sees)
     × ((t : Choice) → newText n c ≡ Some t → 0 < count n t → endOf n t ≤ n .sees))
@@ -67,12 +78,15 @@ abbrev pub Before : ℕ → Option ℕ → Type 0
 Before t None = Unit
 Before t (Some w) = t < w
 
+-- nothing happens before it wants to be woken
 abbrev pub Sleeps : Type 0
 Sleeps = (n : Numbers) (c : Clock) (now t : ℕ) → Timely (c .wait) → now < t → t ≤ lastTick → Before t (wake n c now) → atTick n c t ≡ Act.Nothing
 
+-- something happens then
 abbrev pub Wakes : Type 0
 Wakes = (n : Numbers) (c : Clock) (now w : ℕ) → wake n c now ≡ Some w → w < lastTick → (now < w) × (atTick n c w ≡ Act.Nothing → ⊥)
 
+-- a finished one is forgotten so long after the last packet for it
 abbrev pub Finished : Type 0
 Finished = (n : Numbers) (c : Clock) (now : ℕ) → isOpen (n .stage) ≡ true →
     (finished n ≡ true → c .touched + quiet ≤ now → atTick n c now ≡ Act.Forget) × (atTick n c now ≡ Act.Forget → (finished n ≡ true) × (c .touched + quiet ≤ now))

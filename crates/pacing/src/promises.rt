@@ -1,21 +1,23 @@
 //! What the rules of sending come to. Nothing here runs: each function is there for its contract, a theorem over specs/.
-ghost use Rattle.pacing.specs.Promises.{AlwaysTimely, OwesSpeaks, ClockCarries, SaysAll, Silent, BelowSees, Sleeps, Wakes, Finished, OpeningMoments};
+ghost use Rattle.pacing.specs.Promises.{AlwaysTimely, OwesSpeaks, ClockCarries, ClockRestarts, Answered, SaysAll, Silent, BelowSees, Sleeps, Wakes, Finished, OpeningMoments};
 ghost use Rattle.pacing.specs.Moment.{OneMoment, AtMostSeventeen};
 ghost use Rattle.pacing.specs.UnderWay.{RowsEnough, NewWhenFew};
 
-/// Waiting times lie between 1,000 and 60,000 ticks, whatever happened. One that owes speaks within 60,000 ticks, and that
-/// text has bytes or last.
+/// Waiting times lie between 1,000 and 60,000 ticks, whatever happened. One that owes speaks within 60,000 ticks; that text
+/// has bytes or last, and starts the waiting time again, doubled.
 pub fn waiting_promise() -> u8
     ensures always { λ _. ⌜ AlwaysTimely ⌝ }
     ensures speaks { λ _. ⌜ OwesSpeaks ⌝ }
     ensures carries { λ _. ⌜ ClockCarries ⌝ }
+    ensures restarts { λ _. ⌜ ClockRestarts ⌝ }
 {
     0
 }
 
-/// Every text tells edge and all as they are. One that owes nothing and is asked nothing sends nothing. Answers and new texts
+/// A text that had bytes or last is answered at once. Every text tells edge and all as they are. One that owes nothing and is asked nothing sends nothing. Answers and new texts
 /// have no byte at or beyond what is seen; a due text has at most one.
 pub fn text_promise() -> u8
+    ensures answered { λ _. ⌜ Answered ⌝ }
     ensures says { λ _. ⌜ SaysAll ⌝ }
     ensures silent { λ _. ⌜ Silent ⌝ }
     ensures below { λ _. ⌜ BelowSees ⌝ }

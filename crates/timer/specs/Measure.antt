@@ -1,7 +1,7 @@
 -- The waiting time of RFC 6298 in whole ticks: the mean round trip in eighths of a tick, its deviation in quarters.
 use mathlib.Core.List.{List, [], _∷_}
 use mathlib.Core.Path.{_≡_}
-use Prim.Native.Nat.{ℕ, _+_, _-_, _*_, _/_, _^_, _≤_, min, max}
+use Prim.Native.Nat.{ℕ, zero, suc, _+_, _-_, _*_, _/_, _^_, _≤_, min, max}
 use Rattle.std.specs.declared.option.Option.{Option}
 use Rattle.std.specs.declared.option.Option.the-variants.{Some, None}
 use Rattle.timer.specs.declared.measures.Measures.{Measures}
@@ -51,3 +51,11 @@ course m (t ∷ ts) = (measured m t, waiting (measured m t)) ∷ course (measure
 
 abbrev pub WorkedMeasures : Type 0
 WorkedMeasures = course None (100 ∷ 140 ∷ []) ≡ (Some (record { mean = 800; deviation = 200 }), 1000) ∷ (Some (record { mean = 840; deviation = 190 }), 1000) ∷ []
+
+-- when texts go out by the clock if nothing is confirmed: ticks after the moment from which the waiting time runs
+abbrev pub clockTexts : ℕ → ℕ → ℕ → List ℕ
+clockTexts zero wait t = []
+clockTexts (suc k) wait t = (t + wait) ∷ clockTexts k (doubled wait) (t + wait)
+
+abbrev pub WorkedDoubling : Type 0
+WorkedDoubling = clockTexts 8 shortest 0 ≡ 1000 ∷ 3000 ∷ 7000 ∷ 15000 ∷ 31000 ∷ 63000 ∷ 123000 ∷ 183000 ∷ []

@@ -1,11 +1,12 @@
 //! What the rules of time come to. Nothing here runs: each function is there for its contract, a theorem over specs/.
 ghost use Rattle.timer.specs.Enough.{SixteenSuffice};
-ghost use Rattle.timer.specs.Measure.{WorkedMeasures};
+ghost use Rattle.timer.specs.Measure.{WorkedMeasures, WorkedDoubling};
 ghost use Rattle.timer.specs.Opening.{EightMoments};
 
-/// Round trips of 100 and 140 ticks, worked out.
-pub fn worked_measures() -> u8
-    ensures { λ _. ⌜ WorkedMeasures ⌝ }
+/// Round trips of 100 and 140 ticks, worked out; and the times of texts by the clock where nothing is confirmed.
+pub fn worked_times() -> u8
+    ensures measures { λ _. ⌜ WorkedMeasures ⌝ }
+    ensures doubling { λ _. ⌜ WorkedDoubling ⌝ }
 {
     0
 }
