@@ -3,3 +3,5 @@ pub mod Nets
 pub mod OneSide
 pub mod BothSides
 pub mod Kept
+pub mod Moving
+pub mod RoundsMade

@@ -1,0 +1,50 @@
+-- Moves that ends make by themselves, and the rounds that bring over all that was given.
+use mathlib.Core.Bool.{true}
+use mathlib.Core.List.{List, [], _∷_, _++_, List·Memᴰ}
+use mathlib.Core.Path.{_≡_}
+use Prim.Native.Nat.{ℕ, _+_, _-_, _*_, _^_, _≤_, min}
+use lib.ListN.{length}
+use Rattle.std.specs.declared.option.Option.{Option}
+use Rattle.std.specs.declared.option.Option.the-variants.{Some, None}
+use Rattle.std.specs.declared.result.Result.{Result}
+use Rattle.std.specs.declared.result.Result.the-variants.{Ok, Err}
+use Rattle.hold.specs.Drive.{drive, roundMoves}
+use Rattle.hold.specs.Packet as m
+use Rattle.hold.specs.Self.{Self, made, makes}
+use Rattle.hold.specs.World.{Ev, Who, World, byTag, end, other, world}
+use Rattle.packet.specs.Packets.{packet}
+use Rattle.packet.specs.Sizes.{capacity}
+use Rattle.packet.specs.declared.packet.Packet.{Packet}
+use Rattle.ledger.specs.Books.{viewOf}
+use Rattle.ledger.specs.Sentence.{Account, One}
+use Rattle.ledger.specs.declared.record.View.{View}
+use Rattle.party.specs.declared.Fault.{Fault}
+use Rattle.simulation.specs.Shows.{Shows, netOf}
+use Rattle.simulation.specs.declared.pair.Pair.{Pair}
+
+-- q stands for a run that goes on from p's
+abbrev pub Goes : Pair → Pair → Type 0
+Goes p q = (cfg : m.Settings) (es : List Ev) → Shows cfg p (world cfg es) → (fs : List Ev) × Shows cfg q (world cfg (fs ++ es))
+
+-- the latest packet of a net, which is the last
+abbrev pub Latest : List Packet → Option Packet → Type 0
+Latest net None = net ≡ []
+Latest net (Some p) = (qs : List m.Packet) × (netOf net ≡ packet p ∷ qs)
+
+-- the connection of a tag, as it is to be seen
+abbrev pub Seen : Pair → Who → ℕ → Option View → Type 0
+Seen p o t r = (cfg : m.Settings) (w : World) → Shows cfg p w → r ≡ viewOf (byTag t (end o w .conns))
+
+abbrev pub AtMost : ℕ → Result ℕ Fault → Type 0
+AtMost k (Ok n) = n ≤ k
+AtMost k (Err f) = Unit {0}
+
+-- one move, which makes n events
+abbrev pub Made1 : Pair → Pair → Self → Result ℕ Fault → Type 0
+Made1 p q s (Ok n) = (cfg : m.Settings) (es : List Ev) → Shows cfg p (world cfg es) → Shows cfg q (world cfg (makes cfg (world cfg es) s ++ es)) × (length (makes cfg (world cfg es) s) ≡ n)
+Made1 p q s (Err f) = Goes p q
+
+-- moves, which make n events
+abbrev pub MadeAll : Pair → Pair → List Self → Result ℕ Fault → Type 0
+MadeAll p q ms (Ok n) = (cfg : m.Settings) (es : List Ev) → Shows cfg p (world cfg es) → Shows cfg q (world cfg (made cfg es ms ++ es)) × (length (made cfg es ms) ≡ n)
+MadeAll p q ms (Err f) = Goes p q
