@@ -10,10 +10,11 @@ ghost use Rattle.hold.specs.Self.{Brings, Clock, Take, isYes};
 ghost use Rattle.hold.specs.World.{Hears, World, byTag, end};
 ghost use Rattle.packet.specs.Packets.{packet};
 ghost use Rattle.packet.specs.Sizes.{capacity};
-ghost use Rattle.simulation.specs.Carry.{AtMost, Latest, Made1, MadeAll, Seen};
+ghost use Rattle.simulation.specs.Carry.{AtMost, Carried, Driven, Latest, Made1, MadeAll, Seen};
 ghost use Rattle.simulation.specs.Shows.{Does, Shows, netTo, whenOk, whoOf};
 use crate::pair::Pair;
 use crate::pair::Side;
+use endpoint::Refusal;
 use ledger::record::View;
 use packet::packet::Kind;
 use packet::packet::Packet;
@@ -185,5 +186,45 @@ impl Pair {
             Err(f) => Err(f),
             Ok(d) => Ok(a + b + c + d),
         }
+    }
+
+    /// Rounds as long as the other's connection has something to say, and so many at most; how many moves they took.
+    fn rounds(&mut self, side: Side, tag: u64, peer: u64, most: u64) -> Result<u64, Fault>
+        ensures { λ r. ⌜ Driven (now (self .entry)) (now (self .exit)) most (whoOf side) tag peer r ⌝ }
+    {
+        let mut moves: u64 = 0;
+        for _i in 0..most {
+            if !self.speaks(side.other(), peer) {
+                return Ok(moves);
+            }
+            match self.round(side, tag, peer) {
+                Err(f) => return Err(f),
+                Ok(n) => moves = moves.saturating_add(n as u64),
+            }
+        }
+        Ok(moves)
+    }
+
+    /// The moves that bring over all that was given to the connection of a side with a tag, as long as it and the other's live.
+    pub fn carry(&mut self, side: Side, tag: u64) -> Result<u64, Fault>
+        ensures { λ r. ⌜ Carried (now (self .entry)) (now (self .exit)) (whoOf side) tag r ⌝ }
+    {
+        let Some(c) = self.look(side, tag) else {
+            return Err(Fault::Refused(Refusal::NotThere));
+        };
+        let Some(d) = self.look(side.other(), c.peer) else {
+            return Err(Fault::Refused(Refusal::NotThere));
+        };
+        if !c.settled {
+            return Err(Fault::Unfit);
+        }
+        if !d.settled {
+            return Err(Fault::Unfit);
+        }
+        if d.peer != tag {
+            return Err(Fault::Unfit);
+        }
+        let most = d.given.saturating_sub(c.arrived).saturating_add(2);
+        self.rounds(side, tag, c.peer, most)
     }
 }
