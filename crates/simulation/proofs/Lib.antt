@@ -5,3 +5,4 @@ pub mod BothSides
 pub mod Kept
 pub mod Moving
 pub mod RoundsMade
+pub mod Brings
