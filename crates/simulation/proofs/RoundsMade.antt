@@ -52,9 +52,10 @@ unfolding made
 more-made p q r ms s k n f g cfg es w = go (f cfg es w)
   where
     go : Shows cfg q (world cfg (made cfg es ms ++ es)) × (length (made cfg es ms) ≡ k) → Shows cfg r (world cfg ((makes cfg (world cfg (made cfg es ms ++ es)) s ++ made cfg es ms) ++ es)) × (length (makes cfg (world cfg (made cfg es ms ++ es)) s ++ made cfg es ms) ≡ k + n)
-    go (t, e) = let (u, d) = g cfg (made cfg es ms ++ es) t in
-        (subst (λ z. Shows cfg r (world cfg z)) (sym (append-assoc (makes cfg (world cfg (made cfg es ms ++ es)) s) (made cfg es ms) es)) u,
-          length-append (makes cfg (world cfg (made cfg es ms ++ es)) s) (made cfg es ms) ∙ omega (arith, e, d))
+    go (t, e) = let (u, d) = g cfg (made cfg es ms ++ es) t in (
+      subst (λ z. Shows cfg r (world cfg z)) (sym (append-assoc (makes cfg (world cfg (made cfg es ms ++ es)) s) (made cfg es ms) es)) u,
+      length-append (makes cfg (world cfg (made cfg es ms ++ es)) s) (made cfg es ms) ∙ omega (arith, e, d),
+    )
 
 pub round-made : (p₀ p₁ p₂ p₃ p₄ : Pair) (o q r : Who) (t s k a b c d : ℕ) → q ≡ other o → r ≡ other o → Made1 p₀ p₁ (Take o t k) (Ok a) → Made1 p₁ p₂ (Clock q s) (Ok b) → Made1 p₂ p₃ (Brings o 0 0) (Ok c) → Made1 p₃ p₄ (Brings r 0 0) (Ok d) →
     MadeAll p₀ p₄ (roundMoves o t s k) (Ok (a + b + c + d))
@@ -118,10 +119,12 @@ module _ (p q : Pair) (n : ℕ) (o : Who) (t s : ℕ) where
     where
       go : (fs : List Ev) × Shows cfg q (world cfg (fs ++ es)) × (drivenTo cfg es n o t s ≡ drivenTo cfg (fs ++ es) i o t s) × (k ≡ min (2 ^ 64 - 1) (length fs)) →
           (gs : List Ev) × Shows cfg r (world cfg (gs ++ es)) × (drivenTo cfg es n o t s ≡ drivenTo cfg (gs ++ es) j o t s) × (l ≡ min (2 ^ 64 - 1) (length gs))
-      go (fs, x, y, c) = let (f, g) = m cfg (fs ++ es) x in let ms = made cfg (fs ++ es) (roundMoves o t s capacity) in
-          (ms ++ fs, subst (λ v. Shows cfg r (world cfg v)) (sym (append-assoc ms fs es)) f,
-            y ∙ ap (λ v. drivenTo cfg (fs ++ es) v o t s) z ∙ go-on cfg o t s j (fs ++ es) (sym (h cfg (world cfg (fs ++ es)) x)) ∙ ap (λ v. drivenTo cfg v j o t s) (sym (append-assoc ms fs es)),
-            e ∙ sums (2 ^ 64 - 1) k a (length fs) (length (ms ++ fs)) c (length-append ms fs ∙ ap (λ v. v + length fs) g))
+      go (fs, x, y, c) = let (f, g) = m cfg (fs ++ es) x in let ms = made cfg (fs ++ es) (roundMoves o t s capacity) in (
+        ms ++ fs,
+        subst (λ v. Shows cfg r (world cfg v)) (sym (append-assoc ms fs es)) f,
+        y ∙ ap (λ v. drivenTo cfg (fs ++ es) v o t s) z ∙ go-on cfg o t s j (fs ++ es) (sym (h cfg (world cfg (fs ++ es)) x)) ∙ ap (λ v. drivenTo cfg v j o t s) (sym (append-assoc ms fs es)),
+        e ∙ sums (2 ^ 64 - 1) k a (length fs) (length (ms ++ fs)) c (length-append ms fs ∙ ap (λ v. v + length fs) g),
+      )
 
 -- who speaks at the other side
 pub seen-other : (q : Pair) (b : Bool) (o r : Who) (s : ℕ) → r ≡ other o → ((cfg : m.Settings) (w : World) → Shows cfg q w → b ≡ speaksIn (byTag s (end r w .conns))) → (cfg : m.Settings) (w : World) → Shows cfg q w → b ≡ speaksIn (byTag s (end (other o) w .conns))

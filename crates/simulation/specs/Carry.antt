@@ -73,3 +73,8 @@ Brought these others after t k = (a b x : Account) → List·Memᴰ a these → 
 abbrev pub Carried : Pair → Pair → Who → ℕ → Result ℕ Fault → Type 0
 Carried p q o t (Ok k) = Goes p q × (Runs p → Brought (accounts (partyOf o p .book)) (accounts (partyOf (other o) p .book)) (accounts (partyOf o q .book)) t k)
 Carried p q o t (Err f) = Goes p q
+
+-- what users see of it, if it was not refused
+abbrev pub BroughtBy : Pair → Pair → Who → ℕ → Result ℕ Fault → Type 0
+BroughtBy p q o t (Ok k) = Brought (accounts (partyOf o p .book)) (accounts (partyOf (other o) p .book)) (accounts (partyOf o q .book)) t k
+BroughtBy p q o t (Err f) = Unit {0}
