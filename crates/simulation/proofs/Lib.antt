@@ -3,3 +3,6 @@ pub mod Nets
 pub mod OneSide
 pub mod BothSides
 pub mod Kept
+pub mod Moving
+pub mod RoundsMade
+pub mod Brings
