@@ -2,6 +2,7 @@
 mod calls;
 mod hearing;
 mod inside;
+mod numbers;
 mod sending;
 
 use packet::settings::Settings;

@@ -7,6 +7,7 @@ mod halves;
 mod moves;
 mod obey;
 pub mod pair;
+mod see;
 mod steps;
 
 use pair::Pair;
