@@ -12,6 +12,7 @@ use Rattle.hold.specs.Drive.{drive, roundMoves, speaksIn}
 use Rattle.hold.specs.Packet as m
 use Rattle.hold.specs.Self.{Brings, Clock, Self, Take, made, makes}
 use Rattle.hold.specs.World.{Ev, L, R, Who, World, byTag, end, other, world}
+use Rattle.hold.proofs.SelfMoves.{made-app}
 use Rattle.packet.specs.Sizes.{capacity}
 use Rattle.simulation.specs.Carry.{Driven, Goes, Made1, MadeAll, UpTo, drivenTo}
 use Rattle.simulation.specs.Shows.{Shows, whoOf}
@@ -65,15 +66,6 @@ round-made p₀ p₁ p₂ p₃ p₄ o q r t s k a b c d eq er f g h i cfg es w =
   where
     first : MadeAll p₀ p₁ (Take o t k ∷ []) (Ok a)
     first cfg₁ es₁ w₁ = let (x, y) = f cfg₁ es₁ w₁ in (subst (λ z. Shows cfg₁ p₁ (world cfg₁ (z ++ es₁))) (sym (made-one cfg₁ es₁ (Take o t k))) x, ap length (made-one cfg₁ es₁ (Take o t k)) ∙ y)
-
--- moves after moves
-made-app : (cfg : m.Settings) (es : List Ev) (ms ns : List Self) → made cfg es (ns ++ ms) ≡ made cfg (made cfg es ms ++ es) ns ++ made cfg es ms
-unfolding made
-made-app cfg es ms [] = refl
-made-app cfg es ms (n ∷ ns) = go (made cfg es ms) (made cfg (made cfg es ms ++ es) ns) (made cfg es (ns ++ ms)) (made-app cfg es ms ns)
-  where
-    go : (fs gs hs : List Ev) → hs ≡ gs ++ fs → makes cfg (world cfg (hs ++ es)) n ++ hs ≡ (makes cfg (world cfg (gs ++ (fs ++ es))) n ++ gs) ++ fs
-    go fs gs hs e = ap (λ z. makes cfg (world cfg (z ++ es)) n ++ z) e ∙ ap (λ z. makes cfg (world cfg z) n ++ (gs ++ fs)) (append-assoc gs fs es) ∙ sym (append-assoc (makes cfg (world cfg (gs ++ (fs ++ es))) n) gs fs)
 
 module _ (cfg : m.Settings) (o : Who) (t s : ℕ) where
   stop : (n : ℕ) (es : List Ev) → speaksIn (byTag s (end (other o) (world cfg es) .conns)) ≡ false → drivenTo cfg es n o t s ≡ es
