@@ -1,2 +1,3 @@
 pub mod Sizes
 pub mod Ring
+pub mod Bits
