@@ -88,3 +88,20 @@ module _ (place n at count : ℕ) (v : Bool) (ws : List ℕ) (ea : at ≡ (place
       let i : (place + (n + count)) % capacity / 64 ≡ at / 64 = omega arith in
       let j : (place + (n + count)) % 64 ≡ at % 64 + r = omega arith in
       up-at ws (place + (n + count)) (at / 64) (at % 64 + r) i j ∙ g (omega arith)
+
+pub up-round : (ws : List ℕ) (p : ℕ) → up ws (p + capacity) ≡ up ws p
+up-round ws p = up-at ws (p + capacity) (p % capacity / 64) (p % 64) (omega arith) (omega arith) ∙ sym (up-at ws p (p % capacity / 64) (p % 64) refl refl)
+
+-- of a round of places that has the n places, those are as v says, and the others stay
+module _ (place n start : ℕ) (v : Bool) (before ws : List ℕ) (m : Marked place n v before ws) (lo : start ≤ place) (hi : place + n ≤ start + capacity) where
+  pub marked-in : (p : ℕ) → place ≤ p → p < place + n → up ws p ≡ v
+  marked-in p a b = m p a (omega arith) ∙ cond-true (ltb p (place + n)) v (up before p) (lt-ltb p (place + n) b)
+
+  pub marked-out : (p : ℕ) → start ≤ p → p < start + capacity → (p < place) ⊎ (place + n ≤ p) → up ws p ≡ up before p
+  marked-out p a b o = ⊎-elim
+      (λ (l : p < place). sym (up-round ws p) ∙ past (p + capacity) (omega arith) (omega arith) ∙ up-round before p)
+      (λ (l : place + n ≤ p). past p l (omega arith))
+      o
+    where
+      past : (q : ℕ) → place + n ≤ q → q < place + capacity → up ws q ≡ up before q
+      past q c d = m q (omega arith) d ∙ cond-false (ltb q (place + n)) v (up before q) (le-ltb q (place + n) c)

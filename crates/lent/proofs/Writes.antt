@@ -10,7 +10,7 @@ use borrow.Rule.Slice.PartMut.{putMid}
 use lib.Dec.{ltb}
 use lib.Seq.{take-add}
 use lib.ListN.{length, getD, set, take, drop, take-append-drop, length-set}
-use Rattle.std.proofs.shelf.Lists.{take-more-set, drop-set-lt, drop-drop, take-at, length-take, drop-all, length-append, length-drop, length-take-le, drop-append-le, drop-more, append-nil, getD-set-same, getD-set-other}
+use Rattle.std.proofs.shelf.Lists.{take-more-set, drop-set-lt, drop-drop, take-at, drop-at, length-take, drop-all, length-append, length-drop, length-take-le, drop-append-le, drop-more, append-nil, getD-set-same, getD-set-other}
 use Rattle.std.proofs.shelf.Tests.{cases-eq, lt-ltb, le-ltb, cond-true, cond-false}
 use Rattle.lent.specs.Sizes.{capacity}
 use Rattle.lent.specs.Ring.{written, held}
@@ -61,6 +61,22 @@ written-at p (b ∷ bs) m q le size lo hi =
     (λ (e : q ≡ p). first-at p bs m b q le size e (written-at (p + 1) bs (set m (p % capacity) b) (p + capacity) (omega arith) size2 (omega arith) (omega arith)))
     (λ (ne : q ≡ p → ⊥). later-at p bs m b q lo hi ne (written-at (p + 1) bs (set m (p % capacity) b) q (omega arith) size2 (omega arith) (omega arith)))
     (cases-eq q p)
+
+-- of a round of places that has the text's, those of the text have it, and the others stay
+module _ (p : ℕ) (bs m : List ℕ) (start : ℕ) (size : length m ≡ capacity) (lo : start ≤ p) (hi : p + length bs ≤ start + capacity) where
+  pub written-in : (q : ℕ) → p ≤ q → q < p + length bs → getD (written p bs m) (q % capacity) 0 ≡ getD bs (q - p) 0
+  written-in q a b = written-at p bs m q (omega arith) size a (omega arith) ∙ cond-true (ltb q (p + length bs)) (getD bs (q - p) 0) (getD m (q % capacity) 0) (lt-ltb q (p + length bs) b)
+
+  pub written-out : (q : ℕ) → start ≤ q → q < start + capacity → (q < p) ⊎ (p + length bs ≤ q) → getD (written p bs m) (q % capacity) 0 ≡ getD m (q % capacity) 0
+  written-out q a b o = ⊎-elim
+      (λ (l : q < p).
+          let e : q % capacity ≡ (q + capacity) % capacity = omega arith in
+          ap (λ k. getD (written p bs m) k 0) e ∙ past (q + capacity) (omega arith) (omega arith) ∙ ap (λ k. getD m k 0) (sym e))
+      (λ (l : p + length bs ≤ q). past q l (omega arith))
+      o
+    where
+      past : (r : ℕ) → p + length bs ≤ r → r < p + capacity → getD (written p bs m) (r % capacity) 0 ≡ getD m (r % capacity) 0
+      past r c d = written-at p bs m r (omega arith) size (omega arith) d ∙ cond-false (ltb r (p + length bs)) (getD bs (r - p) 0) (getD m (r % capacity) 0) (le-ltb r (p + length bs) c)
 
 -- a text that does not pass the ring's end is written in one part
 written-part : (p a : ℕ) (bs m : List ℕ) → (0 < length bs → p % capacity ≡ a) → a + length bs ≤ capacity → a + length bs ≤ length m → written p bs m ≡ take a m ++ (bs ++ drop (a + length bs) m)
@@ -131,19 +147,23 @@ held-at p (suc n) m (suc i) l = let e : p + 1 + i ≡ p + suc i = omega arith in
 pub held-one : (p a n : ℕ) (m : List ℕ) → a ≡ p % capacity → a + n ≤ capacity → length m ≡ capacity → take n (drop a m) ≡ held p n m
 held-one p a n m ea le size = sym (held-part p a n m (λ _. sym ea) le size)
 
--- two parts of the ring that fill a list, the second copied after the first
-pub held-two : (p a j k : ℕ) (m out one two : List ℕ) → a ≡ p % capacity → j ≡ capacity - a → k ≡ length (one ++ drop j out) - j → j ≤ length out → length out ≤ capacity → length m ≡ capacity →
-    one ≡ take j (drop a m) → two ≡ take (length out - j) m → putMid j k (one ++ drop j out) two ≡ held p (length out) m
-held-two p a j k m out one two ea ej ek lo hi size e1 e2 =
-    let n1 : length one ≡ j = ap length e1 ∙ simp (length-take, length-drop) (omega arith) in
-    let n2 : length (one ++ drop j out) ≡ length out = simp (length-append, length-drop) (omega arith) in
-    let front : take j (one ++ drop j out) ≡ one = take-at one (drop j out) j n1 in
-    let rest : drop k (drop j (one ++ drop j out)) ≡ [] = drop-drop k j (one ++ drop j out) ∙ drop-all (j + k) (one ++ drop j out) (omega arith) in
-    let turn : 0 ≡ (p + j) % capacity = omega arith in
-    let all : j + (length out - j) ≡ length out = omega arith in
-    ap (λ (xs : List ℕ). xs ++ (two ++ drop k (drop j (one ++ drop j out)))) front ∙ ap (λ (xs : List ℕ). one ++ (two ++ xs)) rest ∙ ap (λ (xs : List ℕ). one ++ xs) (append-nil two) ∙
-    ap (λ (xs : List ℕ). xs ++ two) (e1 ∙ held-one p a j m ea (omega arith) size) ∙ ap (λ (xs : List ℕ). held p j m ++ xs) (e2 ∙ held-one (p + j) 0 (length out - j) m turn (omega arith) size) ∙
-    sym (held-append p j (length out - j) m) ∙ ap (λ (n : ℕ). held p n m) all
+-- a list is filled with what the ring holds, n bytes more
+pub held-more : (p a d n k : ℕ) (m before out part : List ℕ) → a ≡ (p + d) % capacity → a + n ≤ capacity → k ≡ n → d + n ≤ length before → length m ≡ capacity → out ≡ held p d m ++ drop d before → part ≡ take n (drop a m) →
+    putMid d k out part ≡ held p (d + n) m ++ drop (d + n) before
+held-more p a d n k m before out part ea le ek fits size eo ep =
+    let front : take d out ≡ held p d m = ap (take d) eo ∙ take-at (held p d m) (drop d before) d (length-held p d m) in
+    let back : drop d out ≡ drop d before = ap (drop d) eo ∙ drop-at (held p d m) (drop d before) d (length-held p d m) in
+    let rest : drop k (drop d out) ≡ drop (d + n) before = ap (λ (i : ℕ). drop i (drop d out)) ek ∙ ap (drop n) back ∙ drop-drop n d before in
+    ap (λ (xs : List ℕ). xs ++ (part ++ drop k (drop d out))) front ∙ ap (λ (xs : List ℕ). held p d m ++ (part ++ xs)) rest ∙
+    ap (λ (xs : List ℕ). held p d m ++ (xs ++ drop (d + n) before)) (ep ∙ held-one (p + d) a n m ea le size) ∙ sym (append-assoc (held p d m) (held (p + d) n m) (drop (d + n) before)) ∙
+    sym (ap (λ (xs : List ℕ). xs ++ drop (d + n) before) (held-append p d n m))
+
+pub held-all : (p d : ℕ) (m before out : List ℕ) → d ≡ length before → out ≡ held p d m ++ drop d before → out ≡ held p (length before) m
+held-all p d m before out e eo = eo ∙ ap (λ (xs : List ℕ). held p d m ++ xs) (drop-all d before (omega arith)) ∙ append-nil (held p d m) ∙ ap (λ (n : ℕ). held p n m) e
+
+-- the front of a list, filled
+pub filled : (p n : ℕ) (m out part : List ℕ) → n ≤ length out → part ≡ held p (length (take n out)) m → part ≡ held p n m
+filled p n m out part le e = e ∙ ap (λ (k : ℕ). held p k m) (length-take-le n out le)
 
 pub two-parts : (xs front back : List ℕ) (n : ℕ) → front ≡ take n xs → back ≡ drop n xs → front ++ back ≡ xs
 two-parts xs front back n e1 e2 = rw (e1, e2) (take-append-drop n xs)

@@ -31,18 +31,16 @@ pub fn put(ring: &mut [u8; CAPACITY], place: u64, text: &[u8])
     }
 }
 
-/// Reads as many bytes as `out` has, from a place on, in at most two copies.
+/// Reads as many bytes as `out` has, from a place on; no more than two copies for what a ring holds.
 pub fn get(ring: &[u8; CAPACITY], place: u64, out: &mut [u8])
-    requires { ⌜ length (now out) ≤ capacity ⌝ }
+    requires { ⌜ place + length (now out) < 2 ^ 64 ⌝ }
     ensures { λ _. ⌜ now (out .exit) ≡ held place (length (now (out .entry))) (now (ring .entry)) ⌝ }
 {
-    let at = slot(place);
-    let first = CAPACITY - at;
-    let n = out.len();
-    if n <= first {
-        out.copy_from_slice(&ring[at..at + n]);
-    } else {
-        out[..first].copy_from_slice(&ring[at..]);
-        out[first..].copy_from_slice(&ring[..n - first]);
+    let mut done = 0;
+    while done < out.len() {
+        let at = slot(place + done as u64);
+        let n = (CAPACITY - at).min(out.len() - done);
+        out[done..done + n].copy_from_slice(&ring[at..at + n]);
+        done += n;
     }
 }
