@@ -3,9 +3,9 @@ use mathlib.Core.Path.{_≡_, refl, sym, ap, subst, _∙_}
 use mathlib.Core.Bool.{true, false, _||_}
 use mathlib.Core.List.{List, [], _∷_, _++_}
 use mathlib.Core.Logic.{_⊎_, ⊎-elim}
-use Prim.Native.Nat.{ℕ, zero, suc, _+_, _≤_}
+use Prim.Native.Nat.{ℕ, zero, suc, _+_, _<_, _≤_}
 use native.Mathlib.Omega.{arith}
-use lib.ListN.{length}
+use lib.ListN.{length, getD}
 use lib.Dec.{eqb}
 use Rattle.std.proofs.shelf.Tests.{cond-true, cond-false, eq-eqb, ne-eqb, cases-bool}
 use Rattle.hold.specs.Packet.{Piece, has, byteAt}
@@ -74,3 +74,17 @@ turn-stop (suc n) (suc k) next ks e g h =
 
 pub turn-whole : (k next : ℕ) (ks : List Piece) → length (turn k next ks) ≡ k → has (next + k) ks ≡ false → turn (length ks) next ks ≡ turn k next ks
 turn-whole k next ks e g = turn-stop (length ks) k next ks e g (let s = turn-short k next ks in omega (arith, e, s))
+
+-- a run of n bytes that are there
+pub turn-run : (n next : ℕ) (ks : List Piece) → ((p : ℕ) → next ≤ p → p < next + n → has p ks ≡ true) → (length (turn n next ks) ≡ n) × ((i : ℕ) → i < n → getD (turn n next ks) i 0 ≡ byteAt (next + i) ks)
+turn-run zero next ks all = (ap length (turn-zero next ks), λ i l. absurd (omega arith))
+turn-run (suc n) next ks all =
+    let e = turn-yes n next ks (all next (omega arith) (omega arith)) in
+    let r = turn-run n (next + 1) ks (λ p lo hi. all p (omega arith) (omega arith)) in (
+      ap length e ∙ ap suc (r .0),
+      λ i l. ap (λ xs. getD xs i 0) e ∙ at i l (r .1),
+    )
+  where
+    at : (i : ℕ) → i < suc n → ((j : ℕ) → j < n → getD (turn n (next + 1) ks) j 0 ≡ byteAt (next + 1 + j) ks) → getD (byteAt next ks ∷ turn n (next + 1) ks) i 0 ≡ byteAt (next + i) ks
+    at zero l r = ap (λ k. byteAt k ks) (let z : next ≡ next + 0 = omega arith in z)
+    at (suc i) l r = r i (omega arith) ∙ ap (λ k. byteAt k ks) (let z : next + 1 + i ≡ next + suc i = omega arith in z)
