@@ -50,9 +50,9 @@ unfolding keep
 keep-out next edge q [] ks p o = refl
 keep-out next edge q (b ∷ bs) ks p (inl o) = keep-out next edge (q + 1) bs (keepOne next edge q b ks) p (inl o) ∙ ⊎-elim
     (λ (e : q ≡ p). ap (has p) (one-same next edge q b ks (and-left (not (ltb q next) && ltb q edge) (not (has q ks)) (⊎-elim
-        (λ (l : p < next). and-left (not (ltb q next)) (ltb q edge) (ap not (lt-ltb q next (omega arith))))
-        (λ (l : edge ≤ p). and-right (not (ltb q next)) (ltb q edge) (le-ltb q edge (omega arith)))
-        o))))
+    (λ (l : p < next). and-left (not (ltb q next)) (ltb q edge) (ap not (lt-ltb q next (omega arith))))
+    (λ (l : edge ≤ p). and-right (not (ltb q next)) (ltb q edge) (le-ltb q edge (omega arith)))
+    o))))
     (λ (ne : q ≡ p → ⊥). one-other next edge q b p ks ne .0)
     (cases-eq q p)
 keep-out next edge q (b ∷ bs) ks p (inr o) =
@@ -62,7 +62,7 @@ keep-out next edge q (b ∷ bs) ks p (inr o) =
 one-new : (next edge q b : ℕ) (ks : List Piece) → next ≤ q → q < edge → has q ks ≡ false → (has q (keepOne next edge q b ks) ≡ true) × (byteAt q (keepOne next edge q b ks) ≡ b)
 one-new next edge q b ks lo hi h =
     let s : keepOne next edge q b ks ≡ record { place = q; byte = b } ∷ ks =
-        cond-true (not (ltb q next) && ltb q edge && not (has q ks)) (record { place = q; byte = b } ∷ ks) ks (and-from _ _ (and-from _ _ (ap not (le-ltb q next lo)) (lt-ltb q edge hi)) (ap not h)) in
+    cond-true (not (ltb q next) && ltb q edge && not (has q ks)) (record { place = q; byte = b } ∷ ks) ks (and-from _ _ (and-from _ _ (ap not (le-ltb q next lo)) (lt-ltb q edge hi)) (ap not h)) in
     (ap (has q) s ∙ has-same (record { place = q; byte = b }) ks q refl, ap (byteAt q) s ∙ byte-same (record { place = q; byte = b }) ks q refl)
 
 pub keep-in : (next edge q : ℕ) (bs : List ℕ) (ks : List Piece) (p : ℕ) → next ≤ p → p < edge → q ≤ p → p < q + length bs → has p ks ≡ false →
@@ -71,14 +71,14 @@ unfolding keep
 keep-in next edge q [] ks p a b c d h = absurd (omega arith)
 keep-in next edge q (x ∷ bs) ks p a b c d h = ⊎-elim
     (λ (e : p ≡ q).
-        let o = one-new next edge p x ks a b h in
-        let here : keepOne next edge q x ks ≡ keepOne next edge p x ks = ap (λ i. keepOne next edge i x ks) (sym e) in
-        let r = keep-there next edge (q + 1) bs (keepOne next edge q x ks) p (ap (has p) here ∙ o .0) in
-        let z : p - q ≡ 0 = omega arith in
-        (r .0, r .1 ∙ ap (byteAt p) here ∙ o .1 ∙ sym (ap (λ i. getD (x ∷ bs) i 0) z)))
+    let o = one-new next edge p x ks a b h in
+    let here : keepOne next edge q x ks ≡ keepOne next edge p x ks = ap (λ i. keepOne next edge i x ks) (sym e) in
+    let r = keep-there next edge (q + 1) bs (keepOne next edge q x ks) p (ap (has p) here ∙ o .0) in
+    let z : p - q ≡ 0 = omega arith in
+    (r .0, r .1 ∙ ap (byteAt p) here ∙ o .1 ∙ sym (ap (λ i. getD (x ∷ bs) i 0) z)))
     (λ (ne : p ≡ q → ⊥).
-        let o = one-other next edge q x p ks (λ e. ne (sym e)) in
-        let r = keep-in next edge (q + 1) bs (keepOne next edge q x ks) p a b (omega arith) (omega arith) (o .0 ∙ h) in
-        let z : p - q ≡ suc (p - (q + 1)) = omega arith in
-        (r .0, r .1 ∙ sym (ap (λ i. getD (x ∷ bs) i 0) z)))
+    let o = one-other next edge q x p ks (λ e. ne (sym e)) in
+    let r = keep-in next edge (q + 1) bs (keepOne next edge q x ks) p a b (omega arith) (omega arith) (o .0 ∙ h) in
+    let z : p - q ≡ suc (p - (q + 1)) = omega arith in
+    (r .0, r .1 ∙ sym (ap (λ i. getD (x ∷ bs) i 0) z)))
     (cases-eq p q)

@@ -46,27 +46,27 @@ module _ (place n done at count w : ℕ) (v : Bool) (before ws : List ℕ) (ea :
   clear-of p lo hi e o = ⊎-elim
       (λ (l : p % 64 < at % 64). and-left (leb (at % 64) (p % 64)) _ (lt-leb (at % 64) (p % 64) l))
       (λ (l : at % 64 ≤ p % 64). ⊎-elim
-          (λ (h : p % 64 < at % 64 + count). let m = meet p lo hi e l h in absurd (⊎-elim (λ (x : p < place + done). omega arith) (λ (x : place + done + count ≤ p). omega arith) o))
-          (λ (h : at % 64 + count ≤ p % 64). and-right (leb (at % 64) (p % 64)) (ltb (p % 64) (at % 64 + count)) (le-ltb (p % 64) (at % 64 + count) h))
-          (cases-lt (p % 64) (at % 64 + count)))
+      (λ (h : p % 64 < at % 64 + count). let m = meet p lo hi e l h in absurd (⊎-elim (λ (x : p < place + done). omega arith) (λ (x : place + done + count ≤ p). omega arith) o))
+      (λ (h : at % 64 + count ≤ p % 64). and-right (leb (at % 64) (p % 64)) (ltb (p % 64) (at % 64 + count)) (le-ltb (p % 64) (at % 64 + count) h))
+      (cases-lt (p % 64) (at % 64 + count)))
       (cases-lt (p % 64) (at % 64))
 
   others : (p : ℕ) → place ≤ p → p < place + capacity → (p < place + done) ⊎ (place + done + count ≤ p) → up (set ws (at / 64) w) p ≡ up ws p
   others p lo hi o = ⊎-elim
       (λ (e : p % capacity / 64 ≡ at / 64). up-at (set ws (at / 64) w) p (at / 64) (p % 64) e refl ∙ ap (λ x. bit x (p % 64)) (getD-set-same ws (at / 64) w 0 (omega arith)) ∙ word (p % 64) (omega arith) ∙
-          cond-false (leb (at % 64) (p % 64) && ltb (p % 64) (at % 64 + count)) v (bit (getD ws (at / 64) 0) (p % 64)) (clear-of p lo hi e o) ∙ sym (up-at ws p (at / 64) (p % 64) e refl))
+      cond-false (leb (at % 64) (p % 64) && ltb (p % 64) (at % 64 + count)) v (bit (getD ws (at / 64) 0) (p % 64)) (clear-of p lo hi e o) ∙ sym (up-at ws p (at / 64) (p % 64) e refl))
       (λ (ne : p % capacity / 64 ≡ at / 64 → ⊥). up-at (set ws (at / 64) w) p (p % capacity / 64) (p % 64) refl refl ∙ ap (λ x. bit x (p % 64)) (getD-set-other ws (at / 64) (p % capacity / 64) w 0 ne) ∙ sym (up-at ws p (p % capacity / 64) (p % 64) refl refl))
       (cases-eq (p % capacity / 64) (at / 64))
 
   pub marked-more : Marked place done v before ws → Marked place (done + count) v before (set ws (at / 64) w)
   marked-more m p lo hi = ⊎-elim
       (λ (l : p < place + done). others p lo hi (inl l) ∙ m p lo hi ∙ cond-true (ltb p (place + done)) v (up before p) (lt-ltb p (place + done) l) ∙
-          sym (cond-true (ltb p (place + (done + count))) v (up before p) (lt-ltb p (place + (done + count)) (omega arith))))
+      sym (cond-true (ltb p (place + (done + count))) v (up before p) (lt-ltb p (place + (done + count)) (omega arith))))
       (λ (l : place + done ≤ p). ⊎-elim
-          (λ (h : p < place + done + count). among p l h ∙ sym (cond-true (ltb p (place + (done + count))) v (up before p) (lt-ltb p (place + (done + count)) (omega arith))))
-          (λ (h : place + done + count ≤ p). others p lo hi (inr h) ∙ m p lo hi ∙ cond-false (ltb p (place + done)) v (up before p) (le-ltb p (place + done) l) ∙
-              sym (cond-false (ltb p (place + (done + count))) v (up before p) (le-ltb p (place + (done + count)) (omega arith))))
-          (cases-lt p (place + done + count)))
+      (λ (h : p < place + done + count). among p l h ∙ sym (cond-true (ltb p (place + (done + count))) v (up before p) (lt-ltb p (place + (done + count)) (omega arith))))
+      (λ (h : place + done + count ≤ p). others p lo hi (inr h) ∙ m p lo hi ∙ cond-false (ltb p (place + done)) v (up before p) (le-ltb p (place + done) l) ∙
+      sym (cond-false (ltb p (place + (done + count))) v (up before p) (le-ltb p (place + (done + count)) (omega arith))))
+      (cases-lt p (place + done + count)))
       (cases-lt p (place + done))
 
 pub all-none : (place : ℕ) (v : Bool) (ws : List ℕ) → AllAre place 0 v ws
@@ -78,9 +78,9 @@ module _ (place n at count : ℕ) (v : Bool) (ws : List ℕ) (ea : at ≡ (place
   all-more word a p lo hi = ⊎-elim
       (λ (l : p < place + n). a p lo l)
       (λ (l : place + n ≤ p).
-          let i : p % capacity / 64 ≡ at / 64 = omega arith in
-          let j : p % 64 ≡ at % 64 + (p - (place + n)) = omega arith in
-          up-at ws p (at / 64) (at % 64 + (p - (place + n))) i j ∙ word (at % 64 + (p - (place + n))) (omega arith) (omega arith))
+      let i : p % capacity / 64 ≡ at / 64 = omega arith in
+      let j : p % 64 ≡ at % 64 + (p - (place + n)) = omega arith in
+      up-at ws p (at / 64) (at % 64 + (p - (place + n))) i j ∙ word (at % 64 + (p - (place + n))) (omega arith) (omega arith))
       (cases-lt p (place + n))
 
   pub all-gap : (r : ℕ) → count ≡ r → at % 64 + count < 64 → (at % 64 + r < 64 → bit (getD ws (at / 64) 0) (at % 64 + r) ≡ not v) → up ws (place + (n + count)) ≡ not v

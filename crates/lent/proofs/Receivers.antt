@@ -23,8 +23,8 @@ use Rattle.lent.proofs.Fillings.{filled-none}
 use Rattle.lent.proofs.Keeps.{Away, keep-there, keep-out, keep-in}
 use Rattle.lent.proofs.Turns.{has-none, turn-run, turn-whole}
 
-pub receive-none : (w : ℕ) (ring bits : List ℕ) → w ≤ capacity → length ring ≡ capacity → ((p : ℕ) → up bits p ≡ false) → ReceiveRing w 0 0 ring bits [] []
-receive-none w ring bits le size down = record {
+pub receive-none : (before bits : List ℕ) → Marked 0 capacity false before bits → (w : ℕ) (ring : List ℕ) → w ≤ capacity → length ring ≡ capacity → ReceiveRing w 0 0 ring bits [] []
+receive-none before bits down w ring le size = record {
   got-all = refl;
   size = size;
   narrow = le;
@@ -32,7 +32,7 @@ receive-none w ring bits le size down = record {
   below = omega arith;
   few = omega arith;
   small = omega arith;
-  kept = (λ p lo hi. has-none p ∙ sym (down p));
+  kept = (λ p lo hi. has-none p ∙ sym (marked-in 0 capacity 0 false before bits down (omega arith) (omega arith) p lo hi));
   bytes = (λ p lo e. absurd (false≢true (sym (has-none p) ∙ e)));
   beyond = (λ p lo. has-none p);
   near = (λ p lo e. absurd (false≢true (sym (has-none p) ∙ e)));
@@ -89,8 +89,8 @@ module _ (w got taken place first n : ℕ) (text part ring bits ring2 bits2 : Li
   ring-out : (p : ℕ) → got ≤ p → p < got + capacity → (p < first) ⊎ (first + n ≤ p) → getD ring2 (p % capacity) 0 ≡ getD ring (p % capacity) 0
   ring-out p lo hi o = ⊎-elim
       (λ (l : p < first).
-          let e : p % capacity ≡ (p + capacity) % capacity = omega arith in
-          ap (λ k. getD ring2 k 0) e ∙ f .rest (p + capacity) (omega (arith, fits)) (omega arith) ∙ ap (λ k. getD ring k 0) (sym e))
+      let e : p % capacity ≡ (p + capacity) % capacity = omega arith in
+      ap (λ k. getD ring2 k 0) e ∙ f .rest (p + capacity) (omega (arith, fits)) (omega arith) ∙ ap (λ k. getD ring k 0) (sym e))
       (λ (l : first + n ≤ p). f .rest p l (omega (arith, cut .begins)))
       o
 
@@ -103,12 +103,12 @@ module _ (w got taken place first n : ℕ) (text part ring bits ring2 bits2 : Li
   away : (p : ℕ) → (p < first) ⊎ (first + n ≤ p) → Away (length g) (taken + w) place (length text) p
   away p o = ⊎-elim (λ l. inl (inl l)) (λ (a : length g ≤ p). ⊎-elim
       (λ (b : p < taken + w). ⊎-elim
-          (λ l. inr (inl l))
-          (λ (c : place ≤ p). ⊎-elim
-              (λ (d : p < place + length text). let v = cut .covers p (omega (arith, next)) b c d in absurd (⊎-elim (λ (l : p < first). omega arith) (λ (l : first + n ≤ p). omega arith) o))
-              (λ l. inr (inr l))
-              (cases-lt p (place + length text)))
-          (cases-lt p place))
+      (λ l. inr (inl l))
+      (λ (c : place ≤ p). ⊎-elim
+      (λ (d : p < place + length text). let v = cut .covers p (omega (arith, next)) b c d in absurd (⊎-elim (λ (l : p < first). omega arith) (λ (l : first + n ≤ p). omega arith) o))
+      (λ l. inr (inr l))
+      (cases-lt p (place + length text)))
+      (cases-lt p place))
       (λ l. inl (inr l))
       (cases-lt p (taken + w))) (cases-lt p (length g))
 
@@ -147,12 +147,12 @@ module _ (w got taken place first n : ℕ) (text part ring bits ring2 bits2 : Li
       within-room : (p : ℕ) → length g ≤ p → p < length g + capacity → has p ls ≡ true → getD ring2 (p % capacity) 0 ≡ byteAt p ls
       within-room p lo hi t = ⊎-elim
           (λ (a : (first ≤ p) × (p < first + n)). ⊎-elim
-              (λ (e : has p ks ≡ true). f .same p (a .0) (a .1) (sym (h .kept p lo hi) ∙ e) ∙ h .bytes p lo e ∙ sym (old-one p e .1))
-              (λ (e : has p ks ≡ false). f .new p (a .0) (a .1) (sym (h .kept p lo hi) ∙ e) ∙ part-at p (a .0) (a .1) ∙ sym (new-one p (a .0) (a .1) e .1))
-              (cases-bool (has p ks)))
+          (λ (e : has p ks ≡ true). f .same p (a .0) (a .1) (sym (h .kept p lo hi) ∙ e) ∙ h .bytes p lo e ∙ sym (old-one p e .1))
+          (λ (e : has p ks ≡ false). f .new p (a .0) (a .1) (sym (h .kept p lo hi) ∙ e) ∙ part-at p (a .0) (a .1) ∙ sym (new-one p (a .0) (a .1) e .1))
+          (cases-bool (has p ks)))
           (λ o.
-              let e : has p ks ≡ true = sym (none-more p o) ∙ t in
-              ring-out p (omega (arith, next)) (omega (arith, next)) o ∙ h .bytes p lo e ∙ sym (old-one p e .1))
+          let e : has p ks ≡ true = sym (none-more p o) ∙ t in
+          ring-out p (omega (arith, next)) (omega (arith, next)) o ∙ h .bytes p lo e ∙ sym (old-one p e .1))
           (part-or-not p)
 
   near-by : (p : ℕ) → length g ≤ p → has p ls ≡ true → p < limit

@@ -113,9 +113,9 @@ module _ (w m f c j : ℕ) (em : m ≡ (2 ^ c - 1) * 2 ^ f) where
   within-both r v yes-case no-case = ⊎-elim
       (λ (l : j < f). no-case (inl l) ∙ sym (cond-false (leb f j && ltb j (f + c)) v (bit w j) (and-left (leb f j) (ltb j (f + c)) (lt-leb f j l))))
       (λ (l : f ≤ j). ⊎-elim
-          (λ (h : j < f + c). yes-case l h ∙ sym (cond-true (leb f j && ltb j (f + c)) v (bit w j) (and-from (leb f j) (ltb j (f + c)) (le-leb f j l) (lt-ltb j (f + c) h))))
-          (λ (h : f + c ≤ j). no-case (inr h) ∙ sym (cond-false (leb f j && ltb j (f + c)) v (bit w j) (and-right (leb f j) (ltb j (f + c)) (le-ltb j (f + c) h))))
-          (cases-lt j (f + c)))
+      (λ (h : j < f + c). yes-case l h ∙ sym (cond-true (leb f j && ltb j (f + c)) v (bit w j) (and-from (leb f j) (ltb j (f + c)) (le-leb f j l) (lt-ltb j (f + c) h))))
+      (λ (h : f + c ≤ j). no-case (inr h) ∙ sym (cond-false (leb f j && ltb j (f + c)) v (bit w j) (and-right (leb f j) (ltb j (f + c)) (le-ltb j (f + c) h))))
+      (cases-lt j (f + c)))
       (cases-lt j f)
 
   pub marked-up : bit (bitOr w m) j ≡ cond (leb f j && ltb j (f + c)) true (bit w j)

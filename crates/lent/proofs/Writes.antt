@@ -70,8 +70,8 @@ module _ (p : ℕ) (bs m : List ℕ) (start : ℕ) (size : length m ≡ capacity
   pub written-out : (q : ℕ) → start ≤ q → q < start + capacity → (q < p) ⊎ (p + length bs ≤ q) → getD (written p bs m) (q % capacity) 0 ≡ getD m (q % capacity) 0
   written-out q a b o = ⊎-elim
       (λ (l : q < p).
-          let e : q % capacity ≡ (q + capacity) % capacity = omega arith in
-          ap (λ k. getD (written p bs m) k 0) e ∙ past (q + capacity) (omega arith) (omega arith) ∙ ap (λ k. getD m k 0) (sym e))
+      let e : q % capacity ≡ (q + capacity) % capacity = omega arith in
+      ap (λ k. getD (written p bs m) k 0) e ∙ past (q + capacity) (omega arith) (omega arith) ∙ ap (λ k. getD m k 0) (sym e))
       (λ (l : p + length bs ≤ q). past q l (omega arith))
       o
     where
@@ -99,7 +99,7 @@ by-front p a k text m part ea h le fits size =
     let n : length (drop a m) ≡ length m - a = length-drop a m in
     let long : length (take k (drop a m)) ≡ k = length-take-le k (drop a m) (omega arith) in
     let rest : drop (length text) (take k (drop a m)) ++ drop k (drop a m) ≡ drop (a + length text) m =
-        sym (drop-append-le (length text) (take k (drop a m)) (drop k (drop a m)) (omega arith)) ∙ ap (drop (length text)) (take-append-drop k (drop a m)) ∙ drop-drop (length text) a m in
+    sym (drop-append-le (length text) (take k (drop a m)) (drop k (drop a m)) (omega arith)) ∙ ap (drop (length text)) (take-append-drop k (drop a m)) ∙ drop-drop (length text) a m in
     ap (λ (ys : List ℕ). take a m ++ (ys ++ drop k (drop a m))) h ∙
     ap (λ (ys : List ℕ). take a m ++ ys) (append-assoc text (drop (length text) (take k (drop a m))) (drop k (drop a m)) ∙ ap (λ (ys : List ℕ). text ++ ys) rest) ∙
     sym (written-part p a text m (λ _. sym ea) (omega arith) (omega arith))

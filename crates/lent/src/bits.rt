@@ -4,7 +4,8 @@ ghost use mathlib.Core.Path.{_≡_};
 ghost use Prim.Native.Nat.{ℕ, _+_, _-_, _*_, _^_, _<_, _≤_};
 ghost use Rattle.lent.specs.Sizes.{capacity};
 ghost use Rattle.lent.specs.Bits.{bit, up, Marked, AllAre};
-use crate::ring::{slot, CAPACITY};
+use crate::ring::CAPACITY;
+use crate::ring::slot;
 
 /// Words with a bit for each byte of a ring.
 pub const WORDS: usize = 1024;
@@ -51,7 +52,11 @@ fn run_in(word: u64, from: usize, value: bool) -> usize
     ensures all { λ r. ⌜ ((j : ℕ) → from ≤ j → j < from + r → bit word j ≡ value) ⌝ }
     ensures gap { λ r. ⌜ (from + r < 64 → bit word (from + r) ≡ not value) ⌝ }
 {
-    if value { down_in(!word, from) } else { down_in(word, from) }
+    if value {
+        down_in(!word, from)
+    } else {
+        down_in(word, from)
+    }
 }
 
 /// Puts the bits of `n` places up or down, from a place on.

@@ -1,17 +1,18 @@
 ghost use lib.ListN.{length, take, drop};
-ghost use mathlib.Core.Bool.{false};
 ghost use mathlib.Core.List.{List, [], _++_};
 ghost use mathlib.Core.Path.{_≡_};
-ghost use Prim.Native.Nat.{ℕ, _+_, _-_, _<_, _≤_, min};
+ghost use Prim.Native.Nat.{ℕ, _+_, _-_, _≤_, min};
 ghost use Rattle.hold.specs.Packet.{Piece};
 ghost use Rattle.hold.specs.Conn.{keep, turn, from};
 ghost use Rattle.lent.specs.Sizes.{capacity};
 ghost use Rattle.lent.specs.Sending.{limit};
-ghost use Rattle.lent.specs.Bits.{up};
 ghost use Rattle.lent.specs.Rings.{Holds};
-use crate::bits::{mark, run, WORDS};
+use crate::bits::WORDS;
+use crate::bits::mark;
+use crate::bits::run;
 use crate::gaps::fill_gaps;
-use crate::ring::{get, CAPACITY};
+use crate::ring::CAPACITY;
+use crate::ring::get;
 
 /// The numbers of the bytes that came: those got and not taken, and those kept before their turn, stand in one ring, with bits
 /// that say which places are kept.
@@ -24,11 +25,12 @@ pub struct Receiver {
 }
 
 impl Receiver {
-    /// For a ring that may hold anything, and bits that are all down.
-    pub fn new() -> Receiver
-        ensures holds { λ r. ⌜ ((window : ℕ) (ring bits : List ℕ) → window ≤ capacity → length ring ≡ capacity → ((p : ℕ) → up bits p ≡ false) → Holds window r ring bits [] []) ⌝ }
+    /// For a ring that may hold anything; the bits are put down.
+    pub fn new(bits: &mut [u64; WORDS]) -> Receiver
+        ensures holds { λ r. ⌜ ((window : ℕ) (ring : List ℕ) → window ≤ capacity → length ring ≡ capacity → Holds window r ring (now (bits .exit)) [] []) ⌝ }
         ensures taken { λ r. ⌜ r .taken ≡ 0 ⌝ }
     {
+        mark(bits, 0, CAPACITY as u64, false);
         Receiver { got: 0, taken: 0 }
     }
 
@@ -55,7 +57,14 @@ impl Receiver {
 
     /// Keeps what it may of a text that came: no byte whose turn has passed, for which there is no room, or whose place is kept
     /// already.
-    pub fn keep_all(self, ring: &mut [u8; CAPACITY], bits: &mut [u64; WORDS], window: u64, place: u64, text: &[u8])
+    pub fn keep_all(
+        self,
+        ring: &mut [u8; CAPACITY],
+        bits: &mut [u64; WORDS],
+        window: u64,
+        place: u64,
+        text: &[u8],
+    )
         requires { ⌜ place + length (now text) ≤ limit ⌝ }
         ensures { λ _. ⌜ ((g : List ℕ) (ks : List Piece) → Holds window self (now (ring .entry)) (now (bits .entry)) g ks → Holds window self (now (ring .exit)) (now (bits .exit)) g (keep (length g) (self .taken + window) place (now (text .entry)) ks)) ⌝ }
     {
@@ -65,7 +74,12 @@ impl Receiver {
         let from = place.max(self.got);
         let to = edge.min(place + text.len() as u64);
         if from < to {
-            fill_gaps(ring, bits, from, &text[(from - place) as usize..(to - place) as usize]);
+            fill_gaps(
+                ring,
+                bits,
+                from,
+                &text[(from - place) as usize..(to - place) as usize],
+            );
         }
     }
 

@@ -7,8 +7,11 @@ ghost use Rattle.hold.specs.Packet.{larger};
 ghost use Rattle.lent.specs.Sizes.{capacity};
 ghost use Rattle.lent.specs.Sending.{free};
 ghost use Rattle.lent.specs.Rings.{Waits};
-use crate::ring::{get, put, CAPACITY};
-use crate::source::{fill_from, Source};
+use crate::ring::CAPACITY;
+use crate::ring::get;
+use crate::ring::put;
+use crate::source::Source;
+use crate::source::fill_from;
 
 /// No stream has more bytes than these.
 pub const MOST: u64 = 4611686018427387904;
@@ -62,7 +65,12 @@ impl Sender {
     }
 
     /// As `give`, of at most `most` bytes that a source writes into the free part of the ring.
-    pub fn give_from<S: Source>(mut self, ring: &mut [u8; CAPACITY], most: u64, source: &mut S) -> (Sender, usize)
+    pub fn give_from<S: Source>(
+        mut self,
+        ring: &mut [u8; CAPACITY],
+        most: u64,
+        source: &mut S,
+    ) -> (Sender, usize)
         ensures waits { λ r. ⌜ ((g : List ℕ) → Waits self (now (ring .entry)) g → Waits (r .0) (now (ring .exit)) (g ++ take (r .1) (S·Source .rest (now (source .entry))))) ⌝ }
         ensures count { λ r. ⌜ r .1 ≤ min most (free (self .given) (self .upto)) ⌝ }
         ensures rest { λ r. ⌜ S·Source .rest (now (source .exit)) ≡ drop (r .1) (S·Source .rest (now (source .entry))) ⌝ }
@@ -93,7 +101,8 @@ impl Sender {
         ensures count { λ r. ⌜ r ≡ min (min most (length (now (out .entry)))) (now (self .entry) .given - place) ⌝ }
         ensures rest { λ r. ⌜ drop r (now (out .exit)) ≡ drop r (now (out .entry)) ⌝ }
     {
-        let n = most.min(out.len() as u64).min(self.given.saturating_sub(place)) as usize;
+        let n = most.min(out.len() as u64)
+            .min(self.given.saturating_sub(place)) as usize;
         get(ring, place, &mut out[..n]);
         n
     }

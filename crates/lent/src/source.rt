@@ -5,7 +5,8 @@ ghost use Prim.Native.Nat.{ℕ, _+_, _-_, _≤_};
 ghost use mathlib.Core.List.{_++_};
 ghost use Rattle.lent.specs.Sizes.{capacity};
 ghost use Rattle.lent.specs.Ring.{written};
-use crate::ring::{slot, CAPACITY};
+use crate::ring::CAPACITY;
+use crate::ring::slot;
 
 /// What writes bytes into memory that it is lent, as a decoder does.
 pub trait Source {
@@ -20,7 +21,12 @@ pub trait Source {
 }
 
 /// Lends the part of a ring of `n` bytes from a place on to a source, in one part or two, and says how many bytes it wrote.
-pub fn fill_from<S: Source>(ring: &mut [u8; CAPACITY], place: u64, n: usize, source: &mut S) -> usize
+pub fn fill_from<S: Source>(
+    ring: &mut [u8; CAPACITY],
+    place: u64,
+    n: usize,
+    source: &mut S,
+) -> usize
     requires { ⌜ n ≤ capacity ⌝ }
     ensures ring { λ r. ⌜ now (ring .exit) ≡ written place (take r (S·Source .rest (now (source .entry)))) (now (ring .entry)) ⌝ }
     ensures rest { λ r. ⌜ S·Source .rest (now (source .exit)) ≡ drop r (S·Source .rest (now (source .entry))) ⌝ }

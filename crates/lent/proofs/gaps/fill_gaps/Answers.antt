@@ -13,6 +13,6 @@ loop-done-again c =
       omega (arith, c .run-gap .ensures .within, c .run-done .ensures .within),
       filled-skip (c .args .place) (c .loop-done .done + c .run-gap .result) (c .run-done .result) (c .args .text .now) (c .args .ring .now) (c .args .bits .now) (c .put .last .ring) (c .mark .last .bits) (omega (arith, c .run-gap .ensures .within, c .run-done .ensures .within)) (c .run-done .ensures .all)
           (filled-gap (c .args .place) (c .loop-done .done) (c .run-gap .result) (c .args .text .now) _ (c .args .ring .now) (c .args .bits .now) (c .loop-done .ring) (c .loop-done .bits) (c .put .last .ring) (c .mark .last .bits) (omega (arith, c .run-gap .ensures .within)) size
-              (part-long (c .loop-done .done) (c .run-gap .result) _ (c .args .text .now) all (omega (arith, c .run-gap .ensures .within))) (part-at (c .loop-done .done) (c .run-gap .result) _ (c .args .text .now) all)
-              (c .run-gap .ensures .all) (c .put .ensures) (c .mark .ensures) (c .loop-done .inv .1)),
+          (part-long (c .loop-done .done) (c .run-gap .result) _ (c .args .text .now) all (omega (arith, c .run-gap .ensures .within))) (part-at (c .loop-done .done) (c .run-gap .result) _ (c .args .text .now) all)
+          (c .run-gap .ensures .all) (c .put .ensures) (c .mark .ensures) (c .loop-done .inv .1)),
     )

@@ -19,5 +19,5 @@ returns-else-text-first c =
     let long : length (c .args .ring .now) ≡ capacity = search needs in
     let split = c .split-at .ensures in
     by-two (c .args .place) (c .slot-at .result) _ _ (c .split-at .result .0 .now) (c .split-at .result .1 .now) (c .args .ring .now) (c .copy-from-slice-else-text-first .last .self) (c .copy-from-slice-else-text-first-2 .last .self)
-      (c .slot-at .ensures .at) (c .copy-from-slice-else-text-first .ensures .after) (omega (arith, split .front-len)) (omega (arith, split .front-len)) (c .copy-from-slice-else-text-first-2 .ensures .after) refl (omega (arith, split .back-len)) long ∙
+    (c .slot-at .ensures .at) (c .copy-from-slice-else-text-first .ensures .after) (omega (arith, split .front-len)) (omega (arith, split .front-len)) (c .copy-from-slice-else-text-first-2 .ensures .after) refl (omega (arith, split .back-len)) long ∙
     ap (λ (t : List ℕ). written (c .args .place) t (c .args .ring .now)) (two-parts (c .args .text .now) (c .split-at .result .0 .now) (c .split-at .result .1 .now) _ (split .front) (split .back))
