@@ -3,10 +3,12 @@ ghost use Prim.Native.Nat.{_≤_};
 use lent::bits::WORDS;
 use lent::receiver::Receiver;
 use lent::ring::CAPACITY;
-use lent::sender::{MOST, Sender};
+use lent::sender::MOST;
+use lent::sender::Sender;
 use std::error::AnyError;
 
 const TEXT: usize = 1024;
+
 const WINDOW: u64 = 65536;
 
 /// Carries so many texts, and says how many came as they were given.
@@ -24,7 +26,7 @@ fn carry(texts: u64) -> u64
     let mut right = 0;
     for i in 0..texts {
         let at = (i % TEXT as u64) as usize;
-        text[at] = text[at].wrapping_add(i as u8 | 1);
+        text[at] = text[at].wrapping_add(1);
         let (given, _) = sender.give(&mut sending, &text);
         let place = given.upto;
         if place > MOST {
@@ -32,7 +34,9 @@ fn carry(texts: u64) -> u64
         }
         let n = given.read(&sending, place, TEXT as u64, &mut packet);
         receiver.keep_all(&mut receiving, &mut bits, WINDOW, place, &packet[..n]);
-        let (taken, count) = receiver.advance(&mut bits, WINDOW).take(&receiving, &mut out);
+        let (taken, count) = receiver
+            .advance(&mut bits, WINDOW)
+            .take(&receiving, &mut out);
         sender = given.confirm(taken.got);
         receiver = taken;
         if count == TEXT && out[at] == text[at] {
