@@ -1,0 +1,6 @@
+pub mod Sizes
+pub mod Ring
+pub mod Bits
+pub mod Gaps
+pub mod Sending
+pub mod Rings
