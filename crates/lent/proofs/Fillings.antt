@@ -9,7 +9,7 @@ use lib.Dec.{ltb}
 use lib.ListN.{length, getD, take, drop}
 use Rattle.std.proofs.shelf.Lists.{length-take, length-drop, getD-take, getD-drop}
 use Rattle.std.proofs.shelf.Tests.{false≢true, lt-ltb, le-ltb, cond-true, cond-false, cases-lt}
-use Rattle.lent.specs.Sizes.{capacity}
+use Rattle.packet.specs.Sizes.{capacity}
 use Rattle.lent.specs.Ring.{written}
 use Rattle.lent.specs.Bits.{up, Marked, AllAre}
 use Rattle.lent.specs.Gaps.{Filled}

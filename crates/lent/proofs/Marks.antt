@@ -9,7 +9,7 @@ use lib.Dec.{leb, ltb}
 use lib.ListN.{length, getD, set}
 use Rattle.std.proofs.shelf.Lists.{getD-set-same, getD-set-other}
 use Rattle.std.proofs.shelf.Tests.{lt-ltb, le-ltb, le-leb, lt-leb, and-from, and-left, and-right, cond-true, cond-false, cases-lt, cases-eq}
-use Rattle.lent.specs.Sizes.{capacity}
+use Rattle.packet.specs.Sizes.{capacity}
 use Rattle.lent.specs.Bits.{bit, up, Marked, AllAre}
 
 -- two places of one round that stand in one slot are the same

@@ -11,7 +11,7 @@ use Rattle.std.proofs.shelf.Tests.{false≢true, cases-lt, cases-bool}
 use Rattle.hold.specs.Packet.{Piece, has, byteAt}
 use Rattle.hold.specs.Conn.{keep, turn, from}
 use Rattle.hold.proofs.Pieces.{has-from, byte-from}
-use Rattle.lent.specs.Sizes.{capacity}
+use Rattle.packet.specs.Sizes.{capacity}
 use Rattle.lent.specs.Sending.{limit}
 use Rattle.lent.specs.Ring.{held}
 use Rattle.lent.specs.Bits.{up, Marked, AllAre}
@@ -23,8 +23,8 @@ use Rattle.lent.proofs.Fillings.{filled-none}
 use Rattle.lent.proofs.Keeps.{Away, keep-there, keep-out, keep-in}
 use Rattle.lent.proofs.Turns.{has-none, turn-run, turn-whole}
 
-pub receive-none : (before bits : List ℕ) → Marked 0 capacity false before bits → (w : ℕ) (ring : List ℕ) → w ≤ capacity → length ring ≡ capacity → ReceiveRing w 0 0 ring bits [] []
-receive-none before bits down w ring le size = record {
+pub receive-none : (w : ℕ) (ring bits : List ℕ) → w ≤ capacity → length ring ≡ capacity → AllAre 0 capacity false bits → ReceiveRing w 0 0 ring bits [] []
+receive-none w ring bits le size down = record {
   got-all = refl;
   size = size;
   narrow = le;
@@ -32,7 +32,7 @@ receive-none before bits down w ring le size = record {
   below = omega arith;
   few = omega arith;
   small = omega arith;
-  kept = (λ p lo hi. has-none p ∙ sym (marked-in 0 capacity 0 false before bits down (omega arith) (omega arith) p lo hi));
+  kept = (λ p lo hi. has-none p ∙ sym (down p lo hi));
   bytes = (λ p lo e. absurd (false≢true (sym (has-none p) ∙ e)));
   beyond = (λ p lo. has-none p);
   near = (λ p lo e. absurd (false≢true (sym (has-none p) ∙ e)));

@@ -8,7 +8,7 @@ use lib.Dec.{ltb}
 use lib.ListN.{length, getD, take, drop}
 use Rattle.std.proofs.shelf.Lists.{length-append, length-take, take-at, drop-at, length-drop, length-take-le, getD-append-left, getD-append-right, getD-take, getD-drop, ext-getD}
 use Rattle.std.proofs.shelf.Tests.{lt-ltb, le-ltb, cond-true, cond-false, cases-lt}
-use Rattle.lent.specs.Sizes.{capacity}
+use Rattle.packet.specs.Sizes.{capacity}
 use Rattle.lent.specs.Sending.{free}
 use Rattle.lent.specs.Rings.{SendRing}
 use Rattle.lent.specs.Ring.{written, held}

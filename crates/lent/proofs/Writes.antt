@@ -12,7 +12,7 @@ use lib.Seq.{take-add}
 use lib.ListN.{length, getD, set, take, drop, take-append-drop, length-set}
 use Rattle.std.proofs.shelf.Lists.{take-more-set, drop-set-lt, drop-drop, take-at, drop-at, length-take, drop-all, length-append, length-drop, length-take-le, drop-append-le, drop-more, append-nil, getD-set-same, getD-set-other}
 use Rattle.std.proofs.shelf.Tests.{cases-eq, lt-ltb, le-ltb, cond-true, cond-false}
-use Rattle.lent.specs.Sizes.{capacity}
+use Rattle.packet.specs.Sizes.{capacity}
 use Rattle.lent.specs.Ring.{written, held}
 
 -- one text after another

@@ -4,7 +4,7 @@ use mathlib.Core.Bool.{true, false}
 use mathlib.Core.List.{List}
 use Prim.Native.Nat.{ℕ, _+_, _-_, _<_, _≤_, _%_}
 use lib.ListN.{length, getD}
-use Rattle.lent.specs.Sizes.{capacity}
+use Rattle.packet.specs.Sizes.{capacity}
 use Rattle.lent.specs.Bits.{up, Marked}
 
 -- n bytes of a text, from a place on: those at places that were not marked are written, all those places are marked, and all else stays

@@ -1,4 +1,3 @@
-pub mod Sizes
 pub mod Ring
 pub mod Bits
 pub mod Gaps

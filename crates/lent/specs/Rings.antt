@@ -5,7 +5,7 @@ use mathlib.Core.List.{List}
 use Prim.Native.Nat.{ℕ, _+_, _<_, _≤_, _%_}
 use lib.ListN.{length, getD}
 use Rattle.hold.specs.Packet.{Piece, has, byteAt}
-use Rattle.lent.specs.Sizes.{capacity}
+use Rattle.packet.specs.Sizes.{capacity}
 use Rattle.lent.specs.Sending.{most, limit}
 use Rattle.lent.specs.Bits.{up}
 use Rattle.lent.specs.declared.sender.Sender.{Sender}

@@ -1,7 +1,6 @@
 -- How much may be given.
 use Prim.Native.Nat.{ℕ, _+_, _-_, _^_, min}
-use Rattle.packet.specs.Sizes.{textSize}
-use Rattle.lent.specs.Sizes.{capacity}
+use Rattle.packet.specs.Sizes.{capacity, textSize}
 
 -- no stream has more bytes than these
 abbrev pub most : ℕ

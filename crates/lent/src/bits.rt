@@ -2,9 +2,9 @@ ghost use lib.Dec.{leb, ltb};
 ghost use mathlib.Core.Bool.{true, false, cond, not, _&&_};
 ghost use mathlib.Core.Path.{_≡_};
 ghost use Prim.Native.Nat.{ℕ, _+_, _-_, _*_, _^_, _<_, _≤_};
-ghost use Rattle.lent.specs.Sizes.{capacity};
+ghost use Rattle.packet.specs.Sizes.{capacity};
 ghost use Rattle.lent.specs.Bits.{bit, up, Marked, AllAre};
-use crate::ring::CAPACITY;
+use packet::settings::CAPACITY;
 use crate::ring::slot;
 
 /// Words with a bit for each byte of a ring.
@@ -72,6 +72,13 @@ pub fn mark(bits: &mut [u64; WORDS], place: u64, n: u64, value: bool)
         bits[at / 64] = marked(bits[at / 64], from, count, value);
         done += count as u64;
     }
+}
+
+/// Puts all bits down.
+pub fn clear(bits: &mut [u64; WORDS])
+    ensures { λ _. ⌜ AllAre 0 capacity false (now (bits .exit)) ⌝ }
+{
+    mark(bits, 0, CAPACITY as u64, false);
 }
 
 /// How many bits in a row are as `value` says, at most `most`, from a place on.

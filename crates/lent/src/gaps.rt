@@ -1,11 +1,11 @@
 ghost use lib.ListN.{length};
 ghost use Prim.Native.Nat.{_+_, _^_, _<_, _≤_};
-ghost use Rattle.lent.specs.Sizes.{capacity};
+ghost use Rattle.packet.specs.Sizes.{capacity};
 ghost use Rattle.lent.specs.Gaps.{Filled};
 use crate::bits::WORDS;
 use crate::bits::mark;
 use crate::bits::run;
-use crate::ring::CAPACITY;
+use packet::settings::CAPACITY;
 use crate::ring::put;
 
 /// Writes a text from a place on, but not over bytes whose bits are up, and puts its bits up: one copy for each gap between

@@ -1,17 +1,19 @@
 ghost use lib.ListN.{length, take, drop};
+ghost use mathlib.Core.Bool.{false};
 ghost use mathlib.Core.List.{List, [], _++_};
 ghost use mathlib.Core.Path.{_≡_};
 ghost use Prim.Native.Nat.{ℕ, _+_, _-_, _≤_, min};
 ghost use Rattle.hold.specs.Packet.{Piece};
 ghost use Rattle.hold.specs.Conn.{keep, turn, from};
-ghost use Rattle.lent.specs.Sizes.{capacity};
+ghost use Rattle.packet.specs.Sizes.{capacity};
 ghost use Rattle.lent.specs.Sending.{limit};
+ghost use Rattle.lent.specs.Bits.{AllAre};
 ghost use Rattle.lent.specs.Rings.{Holds};
 use crate::bits::WORDS;
 use crate::bits::mark;
 use crate::bits::run;
 use crate::gaps::fill_gaps;
-use crate::ring::CAPACITY;
+use packet::settings::CAPACITY;
 use crate::ring::get;
 
 /// The numbers of the bytes that came: those got and not taken, and those kept before their turn, stand in one ring, with bits
@@ -25,12 +27,11 @@ pub struct Receiver {
 }
 
 impl Receiver {
-    /// For a ring that may hold anything; the bits are put down.
-    pub fn new(bits: &mut [u64; WORDS]) -> Receiver
-        ensures holds { λ r. ⌜ ((window : ℕ) (ring : List ℕ) → window ≤ capacity → length ring ≡ capacity → Holds window r ring (now (bits .exit)) [] []) ⌝ }
+    /// For a ring that may hold anything, with all bits down.
+    pub fn new() -> Receiver
+        ensures holds { λ r. ⌜ ((window : ℕ) (ring bits : List ℕ) → window ≤ capacity → length ring ≡ capacity → AllAre 0 capacity false bits → Holds window r ring bits [] []) ⌝ }
         ensures taken { λ r. ⌜ r .taken ≡ 0 ⌝ }
     {
-        mark(bits, 0, CAPACITY as u64, false);
         Receiver { got: 0, taken: 0 }
     }
 

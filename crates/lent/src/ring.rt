@@ -1,11 +1,9 @@
 ghost use lib.ListN.{length};
 ghost use mathlib.Core.Path.{_≡_};
 ghost use Prim.Native.Nat.{_+_, _^_, _%_, _<_, _≤_};
-ghost use Rattle.lent.specs.Sizes.{capacity};
+ghost use Rattle.packet.specs.Sizes.{capacity};
 ghost use Rattle.lent.specs.Ring.{written, held};
-
-/// Bytes of a ring, in which the byte at a place p stands at p % CAPACITY.
-pub const CAPACITY: usize = 65536;
+use packet::settings::CAPACITY;
 
 /// Where the byte at a place stands in a ring.
 pub fn slot(place: u64) -> usize

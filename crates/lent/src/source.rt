@@ -3,9 +3,9 @@ ghost use mathlib.Core.List.{List};
 ghost use mathlib.Core.Path.{_≡_};
 ghost use Prim.Native.Nat.{ℕ, _+_, _-_, _≤_};
 ghost use mathlib.Core.List.{_++_};
-ghost use Rattle.lent.specs.Sizes.{capacity};
+ghost use Rattle.packet.specs.Sizes.{capacity};
 ghost use Rattle.lent.specs.Ring.{written};
-use crate::ring::CAPACITY;
+use packet::settings::CAPACITY;
 use crate::ring::slot;
 
 /// What writes bytes into memory that it is lent, as a decoder does.

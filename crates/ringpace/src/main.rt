@@ -2,7 +2,7 @@
 ghost use Prim.Native.Nat.{_≤_};
 use lent::bits::WORDS;
 use lent::receiver::Receiver;
-use lent::ring::CAPACITY;
+use packet::settings::CAPACITY;
 use lent::sender::MOST;
 use lent::sender::Sender;
 use std::error::AnyError;
@@ -19,7 +19,7 @@ fn carry(texts: u64) -> u64
     let mut receiving = [0u8; CAPACITY];
     let mut bits = [0u64; WORDS];
     let mut sender = Sender::new();
-    let mut receiver = Receiver::new(&mut bits);
+    let mut receiver = Receiver::new();
     let mut text = [0u8; TEXT];
     let mut packet = [0u8; TEXT];
     let mut out = [0u8; TEXT];

@@ -2,7 +2,7 @@ use mathlib.Core.Path.{_≡_, _∙_}
 use Prim.Native.Nat.{_+_, _-_}
 use native.Mathlib.Omega.{arith}
 use lib.ListN.{length}
-use Rattle.lent.specs.Sizes.{capacity}
+use Rattle.packet.specs.Sizes.{capacity}
 use Rattle.lent.proofs.Fillings.{part-long, part-at, filled-gap, filled-skip}
 use Rattle.lent.proofs.gaps.fill_gaps.Needs as need
 

@@ -4,7 +4,7 @@ use mathlib.Core.List.{List}
 use Prim.Native.Nat.{ℕ}
 use native.Mathlib.Omega.{arith}
 use lib.ListN.{length}
-use Rattle.lent.specs.Sizes.{capacity}
+use Rattle.packet.specs.Sizes.{capacity}
 use Rattle.lent.specs.Ring.{written}
 use Rattle.lent.proofs.Writes.{by-one, by-two, two-parts}
 use Rattle.lent.proofs.ring.put.Needs as need

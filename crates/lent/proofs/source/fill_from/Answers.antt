@@ -4,7 +4,7 @@ use mathlib.Core.List.{List}
 use Prim.Native.Nat.{ℕ, _+_, _-_, _≤_}
 use native.Mathlib.Omega.{arith}
 use lib.ListN.{length, take, drop}
-use Rattle.lent.specs.Sizes.{capacity}
+use Rattle.packet.specs.Sizes.{capacity}
 use Rattle.lent.proofs.Writes.{by-part, by-source}
 use Rattle.std.proofs.shelf.Lists.{drop-drop, length-drop, places}
 use Rattle.lent.proofs.source.fill_from.Needs as need

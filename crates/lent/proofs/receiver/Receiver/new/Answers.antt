@@ -3,4 +3,4 @@ use Rattle.lent.proofs.Receivers.{receive-none}
 use Rattle.lent.proofs.receiver.Receiver.new.Needs as need
 
 pub returns : need.returns
-returns c = record { holds = receive-none (c .args .bits .now) (c .mark .last .bits) (c .mark .ensures); taken = refl }
+returns c = record { holds = receive-none; taken = refl }
