@@ -135,13 +135,7 @@ impl Connection {
 
     /// A text from a place on that the other sees, with at most so many bytes and no more than the settings allow. What is
     /// confirmed is not said again.
-    pub fn says(
-        &self,
-        ring: &[u8; CAPACITY],
-        settings: Settings,
-        place: u64,
-        most: u64,
-    ) -> Packet
+    pub fn says(&self, ring: &[u8; CAPACITY], settings: Settings, place: u64, most: u64) -> Packet
         ensures { λ r. ⌜ ((into bits : List ℕ) (c : Conn) → Stand1 (cfgOf settings) (now (self .entry)) (rings (now (ring .entry)) into bits) c → packet r ≡ says (cfgOf settings) (max (c .upto) place) (min most (settings .size)) c) ⌝ }
     {
         let from = self.stream.sender.upto.max(place);

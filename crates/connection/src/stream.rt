@@ -100,7 +100,8 @@ impl Stream {
         self.sender = self.sender.confirm(p.upto);
         self.all |= p.all;
         self.end = self.end.said(p.last, p.place + text.len() as u64);
-        self.receiver.keep_all(ring, bits, settings.room, p.place, text);
+        self.receiver
+            .keep_all(ring, bits, settings.room, p.place, text);
         self
     }
 

@@ -4,8 +4,8 @@ ghost use mathlib.Core.Path.{_≡_};
 ghost use Prim.Native.Nat.{ℕ, _+_, _-_, _*_, _^_, _<_, _≤_};
 ghost use Rattle.packet.specs.Sizes.{capacity};
 ghost use Rattle.lent.specs.Bits.{bit, up, Marked, AllAre};
-use packet::settings::CAPACITY;
 use crate::ring::slot;
+use packet::settings::CAPACITY;
 
 /// Words with a bit for each byte of a ring.
 pub const WORDS: usize = 1024;

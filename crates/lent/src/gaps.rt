@@ -5,8 +5,8 @@ ghost use Rattle.lent.specs.Gaps.{Filled};
 use crate::bits::WORDS;
 use crate::bits::mark;
 use crate::bits::run;
-use packet::settings::CAPACITY;
 use crate::ring::put;
+use packet::settings::CAPACITY;
 
 /// Writes a text from a place on, but not over bytes whose bits are up, and puts its bits up: one copy for each gap between
 /// bytes that are there.

@@ -13,8 +13,8 @@ use crate::bits::WORDS;
 use crate::bits::mark;
 use crate::bits::run;
 use crate::gaps::fill_gaps;
-use packet::settings::CAPACITY;
 use crate::ring::get;
+use packet::settings::CAPACITY;
 
 /// The numbers of the bytes that came: those got and not taken, and those kept before their turn, stand in one ring, with bits
 /// that say which places are kept.

@@ -7,11 +7,11 @@ ghost use Rattle.hold.specs.Packet.{larger};
 ghost use Rattle.packet.specs.Sizes.{capacity};
 ghost use Rattle.lent.specs.Sending.{free};
 ghost use Rattle.lent.specs.Rings.{Waits};
-use packet::settings::CAPACITY;
 use crate::ring::get;
 use crate::ring::put;
 use crate::source::Source;
 use crate::source::fill_from;
+use packet::settings::CAPACITY;
 
 /// No stream has more bytes than these.
 pub const MOST: u64 = 4611686018427387904;

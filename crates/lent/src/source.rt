@@ -5,8 +5,8 @@ ghost use Prim.Native.Nat.{ℕ, _+_, _-_, _≤_};
 ghost use mathlib.Core.List.{_++_};
 ghost use Rattle.packet.specs.Sizes.{capacity};
 ghost use Rattle.lent.specs.Ring.{written};
-use packet::settings::CAPACITY;
 use crate::ring::slot;
+use packet::settings::CAPACITY;
 
 /// What writes bytes into memory that it is lent, as a decoder does.
 pub trait Source {

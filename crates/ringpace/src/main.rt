@@ -2,9 +2,9 @@
 ghost use Prim.Native.Nat.{_≤_};
 use lent::bits::WORDS;
 use lent::receiver::Receiver;
-use packet::settings::CAPACITY;
 use lent::sender::MOST;
 use lent::sender::Sender;
+use packet::settings::CAPACITY;
 use std::error::AnyError;
 
 const TEXT: usize = 1024;
