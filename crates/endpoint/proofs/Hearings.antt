@@ -8,7 +8,6 @@ use lib.Dec.{eqb, ltb}
 use lib.ListN.{length, set}
 use Rattle.std.proofs.shelf.Tests.{and-from, and-left, and-right, cond-false, cond-true, eq-eqb, le-ltb, ne-eqb}
 use Rattle.std.specs.Options.{isSome}
-use Rattle.std.specs.declared.option.Option.{Option}
 use Rattle.std.specs.declared.option.Option.the-variants.{Some, None}
 use Rattle.hold.specs.Conn.{Conn, Half, new, openWith}
 use Rattle.hold.specs.Code.{isAsk}

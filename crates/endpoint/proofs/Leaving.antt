@@ -1,7 +1,7 @@
 -- Connections that are gone and have a lane still.
-use mathlib.Core.Bool.{Bool, true, false, _&&_, _||_}
+use mathlib.Core.Bool.{true}
 use mathlib.Core.List.{List, [], List·Memᴰ}
-use mathlib.Core.Path.{_≡_, refl, sym, ap, subst, _∙_}
+use mathlib.Core.Path.{_≡_, sym, ap, subst, _∙_}
 use Prim.Native.Nat.{ℕ, _<_}
 use native.Mathlib.Omega.{arith}
 use lib.Dec.{eqb}
@@ -9,10 +9,9 @@ use lib.ListN.{getD, length, set}
 use Rattle.std.proofs.shelf.Lists.{getD-set-same}
 use Rattle.std.proofs.shelf.Tests.{and-parts, eqb-true, or-left, or-right}
 use Rattle.std.specs.Options.{isSome}
-use Rattle.std.specs.declared.option.Option.{Option}
 use Rattle.std.specs.declared.option.Option.the-variants.{Some, None}
 use Rattle.hold.specs.Conn.{Conn, takes}
-use Rattle.hold.specs.World.{End, Takes, Who, World, changed, end, gone}
+use Rattle.hold.specs.World.{End, Takes, changed, end, gone}
 use Rattle.connection.specs.Fields.{blank}
 use Rattle.connection.specs.Stand.{Drained, LeftOver, Rings}
 use Rattle.connection.specs.declared.connection.Connection.{Connection}
@@ -26,7 +25,7 @@ use Rattle.table.proofs.Housing.{lane-low, seek-finds}
 use Rattle.table.proofs.Lodging.{drained, removed}
 use Rattle.endpoint.specs.Calls.{TookLeft, laneOf}
 use Rattle.endpoint.specs.Stands.{Stands, cfg, lent}
-use Rattle.endpoint.specs.Steps.{After, Steps}
+use Rattle.endpoint.specs.Steps.{Steps}
 use Rattle.endpoint.specs.declared.Endpoint.{Endpoint}
 use Rattle.endpoint.proofs.Memory.{Beside}
 use Rattle.endpoint.proofs.Ends.{after-put, changed-none, stands-by}

@@ -1,17 +1,15 @@
 -- What the calls of a user do and answer.
-use mathlib.Core.Bool.{Bool, true, false, cond, not, _&&_}
-use mathlib.Core.List.{List, [], _∷_, _++_, List·Memᴰ}
+use mathlib.Core.Bool.{true, false, cond, not, _&&_}
+use mathlib.Core.List.{List, [], _∷_, List·Memᴰ}
 use mathlib.Core.Path.{_≡_}
-use Prim.Native.Nat.{ℕ, _-_, _≤_, min}
+use Prim.Native.Nat.{ℕ, min}
 use lib.Dec.{eqb, leb, ltb}
-use lib.ListN.{drop, length, take}
+use lib.ListN.{length, take}
 use Rattle.std.specs.declared.option.Option.{Option}
-use Rattle.std.specs.declared.option.Option.the-variants.{Some, None}
+use Rattle.std.specs.declared.option.Option.the-variants.{Some}
 use Rattle.std.specs.declared.result.Result.{Result}
 use Rattle.std.specs.declared.result.Result.the-variants.{Ok, Err}
-use Rattle.hold.specs.Code.{living}
 use Rattle.hold.specs.Conn.{Conn}
-use Rattle.hold.specs.Promise.{tags}
 use Rattle.hold.specs.World.{Breaks, Closes, End, Forgets, Found, Gives, NotThere, Opens, Takes, There, Who, World, byTag, end, gone, isIn, step}
 use Rattle.packet.specs.Packets.{packet, sent}
 use Rattle.packet.specs.declared.packet.Packet.{Packet}

@@ -3,7 +3,6 @@ ghost use lib.ListN.{length};
 ghost use mathlib.Core.Bool.{false, true, _&&_};
 ghost use mathlib.Core.List.{[]};
 ghost use mathlib.Core.Path.{_≡_};
-ghost use Prim.Native.Nat.{ℕ};
 ghost use Rattle.hold.specs.Code.{living};
 ghost use Rattle.hold.specs.Promise.{tags};
 ghost use Rattle.hold.specs.World.{End, Listens, Who, end, isIn, start};
@@ -126,9 +125,10 @@ impl<'m> Endpoint<'m> {
             return Err(Refusal::NotThere);
         };
         let c = self.table.conns[lane];
+        let bye = c.farewell();
         self.table.conns[lane] = c.gone();
         self.table.remove(lane);
-        Ok(c.farewell())
+        Ok(bye)
     }
 
     /// Moves bytes that were got and not taken to the front of `out`, and says how many. What is left of a connection that is gone can be taken until it is forgotten.

@@ -3,18 +3,17 @@ use mathlib.Core.Bool.{Bool, true, false, cond, _&&_, _||_, not}
 use mathlib.Core.List.{List, [], _∷_, List·Memᴰ, List·Memᴰ·head, List·Memᴰ·tail}
 use mathlib.Core.Logic.{_⊎_, ⊎-elim}
 use mathlib.Core.Path.{_≡_, refl, sym, ap, subst, _∙_}
-use Prim.Native.Nat.{ℕ, zero, suc, _+_, _-_, _<_, _≤_}
+use Prim.Native.Nat.{ℕ, suc, _+_, _-_, _<_}
 use native.Mathlib.Omega.{arith}
 use lib.Dec.{eqb}
-use lib.ListN.{getD, length}
+use lib.ListN.{length}
 use Rattle.std.proofs.shelf.Tests.{and-right, cases-eq, cond-false, cond-true, eq-eqb, eqb-true, false≢true, ne-eqb, or-cases, or-left, or-right}
 use Rattle.std.specs.declared.option.Option.{Option}
 use Rattle.std.specs.declared.option.Option.the-variants.{Some, None}
 use Rattle.hold.specs.Code.{living}
 use Rattle.hold.specs.Conn.{Conn}
 use Rattle.hold.specs.Promise.{tags}
-use Rattle.hold.specs.World.{isIn as isTag, Found, NotThere, There, byTag, change, gone}
-use Rattle.lanes.specs.Order.{front}
+use Rattle.hold.specs.World.{isIn as isTag, Found, NotThere, There, change, gone}
 use Rattle.lanes.specs.Used.{Separate, isIn, without}
 use Rattle.table.specs.Housed.{Housed, forgot, held, left, none, seek}
 

@@ -1,12 +1,12 @@
 -- A table as the model's list of connections: what it finds, and what its changes are.
-use mathlib.Core.Bool.{Bool, true, false, cond, _&&_, _||_, not}
-use mathlib.Core.List.{List, [], _∷_, List·Memᴰ}
+use mathlib.Core.Bool.{Bool, true, false, _&&_, not}
+use mathlib.Core.List.{List, _∷_, List·Memᴰ}
 use mathlib.Core.Logic.{_⊎_, ⊎-elim}
 use mathlib.Core.Path.{_≡_, refl, sym, ap, subst, _∙_}
 use Prim.Native.Nat.{ℕ, _<_}
 use native.Mathlib.Omega.{arith}
 use lib.Dec.{eqb, ltb}
-use lib.ListN.{getD, length, set}
+use lib.ListN.{length, set}
 use Rattle.std.proofs.shelf.Lists.{getD-set-other, getD-set-same}
 use Rattle.std.proofs.shelf.Tests.{and-left, and-parts, and-right, cond-both, eqb-true, false≢true, ltb-false, or-cases, or-parts}
 use Rattle.std.specs.Options.{isSome}
@@ -16,14 +16,14 @@ use Rattle.hold.specs.Code.{living}
 use Rattle.hold.specs.Conn.{Conn}
 use Rattle.hold.specs.Packet.{Settings}
 use Rattle.hold.specs.Promise.{tags}
-use Rattle.hold.specs.World.{isIn as isTag, Found, NotThere, There, byTag, byTheirs, change, gone, isAsked}
+use Rattle.hold.specs.World.{isIn as isTag, byTag, byTheirs, change, gone, isAsked}
 use Rattle.connection.specs.Fields.{blank, hasPeer, hasTag}
 use Rattle.connection.specs.Phases.{phaseOf}
 use Rattle.connection.specs.Stand.{ActsAs, LeftOver, Rings, Stand1}
 use Rattle.connection.specs.declared.connection.Connection.{Connection}
-use Rattle.lanes.specs.Used.{Separate, isIn, used, without}
+use Rattle.lanes.specs.Used.{isIn, used, without}
 use Rattle.lanes.proofs.Orders.{length-front, used-separate}
-use Rattle.table.specs.Housed.{Housed, held, seek}
+use Rattle.table.specs.Housed.{Housed, held}
 use Rattle.table.specs.Lodges.{InLane, LeftIn, Lodges}
 use Rattle.table.specs.Search.{at, finds, hasRoom, isGone, isThere, meets, oldestGone}
 use Rattle.table.specs.declared.Table.{Table}

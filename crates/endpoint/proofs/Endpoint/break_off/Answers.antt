@@ -15,7 +15,7 @@ returns c = let x = c .args .self .now in let h = c .in-Some .ensures tt .is in 
   record {
     settings = refl;
     world = λ o w s. let f = finding x (end o w) s (c .args .tag) (c .in-Some .lane) h in
-        after-out _ _ o _ (byeIf (byTag (c .args .tag) (end o w .conns))) w (c .farewell .ensures (cfg x) (lent x (c .in-Some .lane)) (f .c) (f .stand) ∙ sym (ap byeIf (f .there)))
+        after-out _ _ o _ (byeIf (byTag (c .args .tag) (end o w .conns))) w (c .farewell-bye .ensures (cfg x) (lent x (c .in-Some .lane)) (f .c) (f .stand) ∙ sym (ap byeIf (f .there)))
         (ended x _ (c .in-Some .lane) (beside (c .in-Some .lane) x _ refl refl refl refl) refl (c .args .tag) (c .gone .result) (c .remove .ensures .conns) (c .remove .ensures .lanes) h (c .gone .ensures (cfg x) (lent x (c .in-Some .lane))) (end o w) s);
   },
 )

@@ -1,4 +1,4 @@
-use Prim.Native.Nat.{suc, _+_, _≤_}
+use Prim.Native.Nat.{suc, _≤_}
 use native.Mathlib.Omega.{arith}
 use Rattle.table.specs.Search.{at, isGone}
 use Rattle.table.proofs.Searches.{eldest-here, eldest-on, eldest-stays}

@@ -1,0 +1,5 @@
+pub mod Sentence
+pub mod Tells
+pub mod Books
+pub mod Room
+pub mod Ready

@@ -1,0 +1,3 @@
+pub mod Views
+pub mod Noting
+pub mod Parties

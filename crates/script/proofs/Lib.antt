@@ -1,0 +1,4 @@
+mod Printing
+mod Reading
+mod Rounds
+mod Inverse

@@ -1,0 +1,5 @@
+pub mod Drawn
+pub mod Nets
+pub mod OneSide
+pub mod BothSides
+pub mod Kept

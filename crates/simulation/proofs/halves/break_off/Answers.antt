@@ -1,0 +1,13 @@
+use mathlib.Core.Path.{refl}
+use native.Mathlib.Omega.{arith}
+use Rattle.endpoint.specs.Stands as E
+use Rattle.std.specs.Of.Vec.{vec-items}
+use Rattle.hold.specs.World.{Breaks}
+use Rattle.simulation.proofs.OneSide.{half-moves, posted, put-drawn, stepped}
+use Rattle.simulation.proofs.halves.break_off.Needs as need
+
+pub returns-in-Ok-break-off : need.returns-in-Ok-break-off
+returns-in-Ok-break-off c inn ts =
+    let x = c .args .party .now .end in
+    half-moves (c .args .party .now) (c .break-off .last .self) inn (vec-items (c .args .out .now)) (vec-items (c .post .last .net)) _ _ _ (posted (vec-items (c .args .out .now)) (vec-items (c .reserve .last .self)) (vec-items (c .post .last .net)) _ (c .reserve .ensures .items) (c .post .ensures (c .in-Ok .ensures tt .ok refl))) ts (c .in-Ok-break-off .ensures tt)
+    (λ o es. stepped (E.cfg x) (Breaks o (c .args .tag)) es) (λ o w. put-drawn o _ _ _ w)

@@ -1,0 +1,18 @@
+use packet::packet::Packet;
+use party::Party;
+
+#[derive(Clone, Copy)]
+pub enum Side {
+    Left,
+    Right,
+}
+
+/// Two parties, and all that was ever sent and all tags that were ever drawn, the oldest first.
+#[derive(Drop)]
+pub struct Pair {
+    pub left: Party,
+    pub right: Party,
+    pub to_left: Vec<Packet>,
+    pub to_right: Vec<Packet>,
+    pub drawn: Vec<u64>,
+}

@@ -1,0 +1,30 @@
+ghost use Rattle.ledger.specs.Books.{accounts};
+ghost use Rattle.ledger.specs.Sentence.{Sentence};
+ghost use Rattle.simulation.specs.Events.{events};
+ghost use Rattle.simulation.specs.Shows.{Does};
+use crate::Simulation;
+use crate::command::Answer;
+use crate::command::Command;
+use crate::pair::Pair;
+use packet::settings::Settings;
+use party::Fault;
+use std::alloc::Global;
+
+impl Simulation {
+    pub fn new(heap: Global, settings: Settings) -> Simulation
+        ensures sentence { λ r. ⌜ Sentence (accounts (r .pair .left .book)) (accounts (r .pair .right .book)) ⌝ }
+    {
+        Simulation {
+            pair: Pair::new(heap, settings),
+        }
+    }
+
+    /// One line of a script, whatever it is; where it is refused nothing happens. Whatever was done before, what is written down
+    /// of the two users keeps the sentence.
+    pub fn step(&mut self, command: Command<'_>) -> Result<Answer, Fault>
+        ensures did { λ r. ⌜ Does (now (self .entry) .pair) (now (self .exit) .pair) (events (now (self .entry) .pair) (command .entry) r) ⌝ }
+        ensures sentence { λ _. ⌜ Sentence (accounts (now (self .exit) .pair .left .book)) (accounts (now (self .exit) .pair .right .book)) ⌝ }
+    {
+        self.pair.obey(command)
+    }
+}

@@ -1,0 +1,5 @@
+mod Steps
+mod Octets
+mod Choosing
+pub mod Rounds
+pub mod Inverse

@@ -1,0 +1,4 @@
+pub mod Fronts
+pub mod Data
+pub mod Back
+pub mod Words

@@ -1,0 +1,4 @@
+//! Words, numbers and data in a line of bytes.
+pub mod data;
+pub mod front;
+pub mod word;
