@@ -6,7 +6,7 @@ use crate::Simulation;
 use ledger::book::Book;
 use packet::packet::Packet;
 
-impl Simulation {
+impl<'m> Simulation<'m> {
     /// What is written down of the users of a side.
     pub fn book(&self, side: Side) -> &Book
         ensures { λ r. ⌜ now r ≡ bookOf side (now (self .entry) .pair) ⌝ }
