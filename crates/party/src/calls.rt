@@ -69,6 +69,13 @@ impl<'m> Party<'m> {
         }
     }
 
+    /// What is written down of the users.
+    pub fn book(&self) -> &Book
+        ensures { λ r. ⌜ now r ≡ now (self .entry) .book ⌝ }
+    {
+        &self.book
+    }
+
     /// The connection with a tag that is not gone, as it is to be seen.
     pub fn look(&self, tag: u64) -> Option<View>
         ensures { λ r. ⌜ ((e : End) → Stands (now (self .entry) .end) e → r ≡ viewOf (byTag tag (e .conns))) ⌝ }

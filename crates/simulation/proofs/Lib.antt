@@ -3,3 +3,4 @@ pub mod Nets
 pub mod OneSide
 pub mod BothSides
 pub mod Kept
+pub mod Obeying
