@@ -55,6 +55,14 @@ impl<'m> Endpoint<'m> {
         }
     }
 
+    /// An end as a new one, over the same memory.
+    pub fn restart(self, settings: Settings) -> Endpoint<'m>
+        ensures stands { λ r. ⌜ ((o : Who) → Stands r (end o start)) ⌝ }
+        ensures settings { λ r. ⌜ r .settings ≡ settings ⌝ }
+    {
+        Endpoint::new(settings, self.memory, self.bits)
+    }
+
     /// Whether asks open connections from now on.
     pub fn listen(&mut self, on: bool)
         ensures { λ _. ⌜ Steps (now (self .entry)) (now (self .exit)) [] (λ o. Listens o on) ⌝ }

@@ -30,7 +30,10 @@ fn print_packet(rt: &LibcRuntime, to: &str, number: usize, p: &Packet) -> Result
             let (place, upto, edge) = (p.head.place, p.head.upto, p.head.edge);
             let last = if p.head.last { " last" } else { "" };
             let all = if p.head.all { " all" } else { "" };
-            println!(rt, "  {to} {number}: {name} {from} to {tag} place {place} [{text}]{last} upto {upto}{all} edge {edge}")?
+            println!(
+                rt,
+                "  {to} {number}: {name} {from} to {tag} place {place} [{text}]{last} upto {upto}{all} edge {edge}"
+            )?
         }
         _ => println!(rt, "  {to} {number}: {name} {from} to {tag}")?,
     }
@@ -38,7 +41,12 @@ fn print_packet(rt: &LibcRuntime, to: &str, number: usize, p: &Packet) -> Result
 }
 
 /// The packets that were sent to a side since there were `before` of them.
-pub fn print_packets(rt: &LibcRuntime, to: &str, sent: &[Packet], before: usize) -> Result<(), AnyError> {
+pub fn print_packets(
+    rt: &LibcRuntime,
+    to: &str,
+    sent: &[Packet],
+    before: usize,
+) -> Result<(), AnyError> {
     for i in before..sent.len() {
         print_packet(rt, to, i.saturating_add(1), &sent[i])?;
     }
@@ -66,9 +74,17 @@ pub fn print_book(rt: &LibcRuntime, side: &str, book: &Book) -> Result<(), AnyEr
         let given = bytes_of(rt, book.given.as_slice(), r.tag)?;
         let taken = bytes_of(rt, book.taken.as_slice(), r.tag)?;
         let (tag, peer, upto) = (r.tag, r.peer, r.upto);
-        let (opened, closed, told, all) = (yes_no(r.opened), yes_no(r.closed), yes_no(r.told), yes_no(r.all));
+        let (opened, closed, told, all) = (
+            yes_no(r.opened),
+            yes_no(r.closed),
+            yes_no(r.told),
+            yes_no(r.all),
+        );
         println!(rt, "{side} {tag}, with {peer}: was open {opened}")?;
-        println!(rt, "  gave [{given}], closed {closed}; confirmed {upto} bytes, all {all}")?;
+        println!(
+            rt,
+            "  gave [{given}], closed {closed}; confirmed {upto} bytes, all {all}"
+        )?;
         println!(rt, "  was given [{taken}]; told the end {told}")?;
     }
     Ok(())

@@ -15,6 +15,7 @@ use text::data::decode;
 
 /// Bytes for which a connection has room, and most bytes of one text, where the script does not say.
 const ROOM: u64 = 64;
+
 const SIZE: u64 = 1024;
 
 fn side_of(side: Named) -> Side {
@@ -47,7 +48,7 @@ fn print_answer(rt: &LibcRuntime, answer: Result<Answer, Fault>) -> Result<(), A
 }
 
 /// What a call asks of a side; nothing for calls that ends do not have yet.
-fn command_of<'a>(side: Side, call: Call<'a>, bytes: &'a [u8]) -> Option<Command<'a>> {
+fn command_of<'a>(side: Side, call: Call<'_>, bytes: &'a [u8]) -> Option<Command<'a>> {
     match call {
         Call::Listen { on } => Some(Command::Listen(side, on)),
         Call::Open { tag } => Some(Command::Open(side, tag)),
@@ -72,7 +73,12 @@ fn make(rt: &LibcRuntime, pair: &mut Simulation, command: Command<'_>) -> Result
     print_packets(rt, "R", pair.sent_to(Side::Right), right)
 }
 
-fn act(rt: &LibcRuntime, pair: &mut Simulation, side: Side, call: Call<'_>) -> Result<(), AnyError> {
+fn act(
+    rt: &LibcRuntime,
+    pair: &mut Simulation,
+    side: Side,
+    call: Call<'_>,
+) -> Result<(), AnyError> {
     let mut bytes = [0; 1024];
     let mut count = 0;
     if let Call::Give { encoded, .. } = call {
@@ -88,7 +94,10 @@ fn act(rt: &LibcRuntime, pair: &mut Simulation, side: Side, call: Call<'_>) -> R
 /// Does what a line says.
 fn obey(rt: &LibcRuntime, pair: &mut Simulation, line: Line<'_>) -> Result<(), AnyError> {
     match line {
-        Line::Act { side: Some(side), call } => act(rt, pair, side_of(side), call),
+        Line::Act {
+            side: Some(side),
+            call,
+        } => act(rt, pair, side_of(side), call),
         Line::Bring { to, which, tag } => {
             let at = which.saturating_sub(1) as usize;
             make(rt, pair, Command::Deliver(side_of(to), at, tag))

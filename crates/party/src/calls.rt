@@ -69,6 +69,17 @@ impl<'m> Party<'m> {
         }
     }
 
+    /// As a new one, over the same memory.
+    pub fn restart(self, heap: Global, settings: Settings) -> Party<'m>
+        ensures plays { λ r. ⌜ ((o : Who) → Plays r (end o start)) ⌝ }
+        ensures settings { λ r. ⌜ r .end .settings ≡ settings ⌝ }
+    {
+        Party {
+            end: self.end.restart(settings),
+            book: Book::new(heap),
+        }
+    }
+
     /// What is written down of the users.
     pub fn book(&self) -> &Book
         ensures { λ r. ⌜ now r ≡ now (self .entry) .book ⌝ }

@@ -1,8 +1,8 @@
 -- What is printed of a line is read back as that line.
-use mathlib.Core.Path.{_≡_, refl, sym, ap, _∙_}
+use mathlib.Core.Path.{_≡_, refl, ap, _∙_}
 use mathlib.Core.Bool.{cond, _&&_}
-use mathlib.Core.List.{List, [], _∷_, _++_, append-assoc, append-nil}
-use Prim.Native.Nat.{ℕ, _+_, _-_, _≤_, _<_, _^_}
+use mathlib.Core.List.{List, [], _∷_, _++_, append-nil}
+use Prim.Native.Nat.{ℕ, _-_, _≤_, _<_, _^_}
 use native.Mathlib.Omega.{arith}
 use lib.Dec.{eqb, ltb}
 use lib.ListN.{length}
@@ -29,8 +29,8 @@ use Rattle.script.specs.declared.word.Verb.{Verb}
 use Rattle.script.specs.declared.word.Verb.the-variants.{Listen, Open, Accept, Give, Take, Close, Break, State, Due, Answer, Send, Forget}
 use Rattle.script.specs.declared.word.Head.{Head}
 use Rattle.script.specs.declared.word.Head.the-variants.{At, Do, Settings, Bring, Damage, Drive, Tick}
-use Rattle.script.specs.Words.{spelledSide, spelledSwitch, spelledVerb, spelledHead, sides, switches, verbs, heads}
-use Rattle.script.specs.Parse.{Item, Begins, Calls, Names, Turns, Counts, Brings, Slot, side, switch, upTo, bytes, any, Words, after, behindSpace, wordOf, behindVerb, behindHead, rest, words, columned}
+use Rattle.script.specs.Words.{spelledSide, spelledSwitch, spelledVerb, spelledHead, sides, switches, verbs}
+use Rattle.script.specs.Parse.{Item, Begins, Calls, Names, Turns, Counts, Brings, Slot, side, switch, upTo, bytes, any, after, behindSpace, wordOf, behindVerb, behindHead, rest, words, columned}
 use Rattle.script.specs.Lines.{switchOf, verbOf, argumentsOf, wordsOf}
 use Rattle.script.specs.Show.{shown, shownBehind, behindOne}
 use Rattle.script.specs.Back.{IsData, Fits64, CallFits, LineFits, ReadBack}

@@ -1,6 +1,6 @@
 -- The words that a line has.
 use mathlib.Core.Bool.{Bool, true, false}
-use mathlib.Core.List.{List, [], _∷_, _++_}
+use mathlib.Core.List.{List, [], _∷_}
 use Prim.Native.Nat.{ℕ}
 use denote.Ref.{RefT, now}
 use Rattle.std.specs.declared.option.Option.{Option}
@@ -17,7 +17,6 @@ use Rattle.script.specs.declared.word.Switch.{Switch}
 use Rattle.script.specs.declared.word.Switch.the-variants.{On, Off}
 use Rattle.script.specs.declared.word.Verb.{Verb}
 use Rattle.script.specs.declared.word.Verb.the-variants as verb
-use Rattle.script.specs.declared.word.Head.{Head}
 use Rattle.script.specs.declared.word.Head.the-variants as head
 use Rattle.script.specs.Parse.{Item, Begins, Calls, Names, Turns, Counts, Brings, Words}
 

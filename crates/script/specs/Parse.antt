@@ -1,23 +1,18 @@
 -- The words of a line.
-use mathlib.Core.Path.{_≡_}
-use mathlib.Core.Bool.{Bool, true, false, cond}
-use mathlib.Core.List.{List, [], _∷_, _++_}
+use mathlib.Core.Bool.{cond}
+use mathlib.Core.List.{List, [], _∷_}
 use Prim.Native.Nat.{ℕ, _+_, _-_, _^_}
 use lib.Dec.{eqb}
 use lib.ListN.{length}
-use denote.Ref.{RefT, now}
-use Rattle.std.specs.declared.option.Option.{Option}
-use Rattle.std.specs.declared.option.Option.the-variants.{Some, None}
 use Rattle.std.specs.declared.result.Result.{Result}
 use Rattle.std.specs.declared.result.Result.the-variants.{Ok, Err}
-use Rattle.text.specs.Fronts.{Read, andThen, strip, number}
+use Rattle.text.specs.Fronts.{andThen, strip, number}
 use Rattle.text.specs.Data.{whole}
 use Rattle.text.specs.Words.{choose}
 use Rattle.script.specs.declared.line.Side.{Side}
 use Rattle.script.specs.declared.word.Verb.{Verb}
 use Rattle.script.specs.declared.word.Verb.the-variants.{Listen, Open, Accept, Give, Take, Close, Break, State, Due, Answer, Send, Forget}
 use Rattle.script.specs.declared.word.Switch.{Switch}
-use Rattle.script.specs.declared.word.Switch.the-variants.{On, Off}
 use Rattle.script.specs.declared.word.Head.{Head}
 use Rattle.script.specs.declared.word.Head.the-variants.{At, Do, Settings, Bring, Damage, Drive, Tick}
 use Rattle.script.specs.Words.{spelledSide, spelledSwitch, spelledVerb, spelledHead, sides, switches, verbs, heads}

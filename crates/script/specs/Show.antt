@@ -1,5 +1,4 @@
 -- The bytes of a line.
-use mathlib.Core.Path.{_≡_}
 use mathlib.Core.List.{List, [], _∷_, _++_, map}
 use Prim.Native.Nat.{ℕ}
 use Rattle.std.specs.Written.{decimal}

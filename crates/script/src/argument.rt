@@ -5,7 +5,7 @@ ghost use Rattle.std.specs.Vec.{made};
 ghost use Rattle.text.specs.Fronts.{number, seen};
 ghost use Rattle.text.specs.Words.{choose};
 ghost use Rattle.script.specs.Words.{spelledSide, spelledSwitch, spelledVerb, sides, switches, verbs};
-ghost use Rattle.script.specs.Parse.{any, behindSpace, bytes, lineEnd, rest};
+ghost use Rattle.script.specs.Parse.{any, behindSpace, bytes, rest};
 ghost use Rattle.script.specs.Lines.{bytesSeen, ended, oneSeen, twoSeen};
 use crate::line::Side;
 use crate::word::SIDES;

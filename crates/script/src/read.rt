@@ -29,11 +29,7 @@ fn call<'a>(verb: Verb, line: &'a [u8]) -> Result<Call<'a>, &'a [u8]>
             end(line)?;
             Ok(Call::Accept)
         }
-        Verb::Give => {
-            let (tag, behind) = next_number(line, u64::MAX)?;
-            let encoded = last_data(behind)?;
-            Ok(Call::Give { tag, encoded })
-        }
+        Verb::Give => give(line),
         Verb::Take => {
             let (tag, count) = last_two(line)?;
             Ok(Call::Take { tag, count })
@@ -53,11 +49,7 @@ fn call<'a>(verb: Verb, line: &'a [u8]) -> Result<Call<'a>, &'a [u8]>
         Verb::Answer => Ok(Call::Answer {
             tag: last_number(line)?,
         }),
-        Verb::Send => {
-            let (tag, behind) = next_number(line, u64::MAX)?;
-            let (place, count) = last_two(behind)?;
-            Ok(Call::Send { tag, place, count })
-        }
+        Verb::Send => send(line),
         Verb::Forget => Ok(Call::Forget {
             tag: last_number(line)?,
         }),
@@ -73,6 +65,22 @@ fn listen<'a>(line: &'a [u8]) -> Result<Call<'a>, &'a [u8]>
         Switch::On => Ok(Call::Listen { on: true }),
         Switch::Off => Ok(Call::Listen { on: false }),
     }
+}
+
+fn give<'a>(line: &'a [u8]) -> Result<Call<'a>, &'a [u8]>
+    ensures { λ r. ⌜ callSeen r ≡ beside Verb.Give (rest (behindVerb Verb.Give) (now (line .entry))) ⌝ }
+{
+    let (tag, behind) = next_number(line, u64::MAX)?;
+    let encoded = last_data(behind)?;
+    Ok(Call::Give { tag, encoded })
+}
+
+fn send<'a>(line: &'a [u8]) -> Result<Call<'a>, &'a [u8]>
+    ensures { λ r. ⌜ callSeen r ≡ beside Verb.Send (rest (behindVerb Verb.Send) (now (line .entry))) ⌝ }
+{
+    let (tag, behind) = next_number(line, u64::MAX)?;
+    let (place, count) = last_two(behind)?;
+    Ok(Call::Send { tag, place, count })
 }
 
 fn damage<'a>(line: &'a [u8]) -> Result<Line<'a>, &'a [u8]>

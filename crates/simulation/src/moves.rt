@@ -37,6 +37,19 @@ impl<'m> Pair<'m> {
         }
     }
 
+    /// As a new one, over the same memory.
+    pub fn restart(self, heap: Global, settings: Settings) -> Pair<'m>
+        ensures { λ r. ⌜ Shows (cfgOf settings) r start ⌝ }
+    {
+        Pair {
+            left: self.left.restart(heap, settings),
+            right: self.right.restart(heap, settings),
+            to_left: Vec::new(heap),
+            to_right: Vec::new(heap),
+            drawn: Vec::new(heap),
+        }
+    }
+
     pub fn listen(&mut self, side: Side, on: bool)
         ensures { λ _. ⌜ Does (now (self .entry)) (now (self .exit)) (λ _. Listens (whoOf side) on ∷ []) ⌝ }
     {

@@ -37,6 +37,15 @@ impl<'m> Simulation<'m> {
         }
     }
 
+    /// As a new one, over the same memory.
+    pub fn restart(self, heap: Global, settings: Settings) -> Simulation<'m>
+        ensures sentence { λ r. ⌜ Sentence (accounts (r .pair .left .book)) (accounts (r .pair .right .book)) ⌝ }
+    {
+        Simulation {
+            pair: self.pair.restart(heap, settings),
+        }
+    }
+
     /// One line of a script, whatever it is; where it is refused nothing happens. Whatever was done before, what is written down
     /// of the two users keeps the sentence.
     pub fn step(&mut self, command: Command<'_>) -> Result<Answer, Fault>

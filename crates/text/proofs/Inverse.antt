@@ -6,7 +6,7 @@ use Prim.Native.Nat.{ℕ, zero, suc, _+_, _-_, _*_, _/_, _%_, _≤_, _<_, _^_}
 use native.Mathlib.Omega.{arith}
 use borrow.Author.Needs.{needs}
 use lib.Dec.{eqb, leb, ltb}
-use lib.ListN.{length, getD}
+use lib.ListN.{length}
 use Rattle.std.specs.Written.{decimal}
 use Rattle.std.specs.shelf.Text.{allDigits}
 use Rattle.std.specs.declared.result.Result.{Result}
@@ -17,7 +17,7 @@ use Rattle.std.proofs.shelf.Tests.{and-from, and-parts, leb-true, ltb-true, eqb
 use Rattle.std.proofs.shelf.Ways.{tells}
 use Rattle.text.specs.Fronts.{Read, andThen, strip, isDigit, digits, number}
 use Rattle.text.specs.Data.{isPlain, hexOf, written, encode, nibble, escape, octet, onward, run}
-use Rattle.text.specs.Words.{tried, shorter, chooseFrom, choose}
+use Rattle.text.specs.Words.{tried, shorter, chooseFrom}
 use Rattle.text.specs.Back.{Bytes}
 
 pub same : {A : Type 0} (x y : A) → _≡_ {A = Result A (List ℕ)} (Ok x) (Ok y) → x ≡ y

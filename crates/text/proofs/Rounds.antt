@@ -1,6 +1,6 @@
 -- What is written is read back.
 use mathlib.Core.Path.{_≡_, refl, sym, ap, _∙_}
-use mathlib.Core.Bool.{true, false, cond, _&&_}
+use mathlib.Core.Bool.{true, false, _&&_}
 use mathlib.Core.List.{List, [], _∷_, _++_}
 use mathlib.Core.Logic.{⊎-elim}
 use Prim.Native.Nat.{ℕ, zero, suc, _+_, _-_, _*_, _/_, _%_, _≤_, _<_, _^_}
@@ -8,13 +8,13 @@ use native.Mathlib.Omega.{arith}
 use lib.Dec.{eqb, leb, ltb}
 use lib.ListN.{length, getD, drop}
 use Rattle.std.specs.Written.{decimal}
-use Rattle.std.specs.declared.result.Result.the-variants.{Ok, Err}
+use Rattle.std.specs.declared.result.Result.the-variants.{Ok}
 use Rattle.std.proofs.shelf.Decimals.{decimal-by-steps, decimal-digit}
 use Rattle.std.proofs.shelf.Lists.{append-assoc, getD-append-left, length-append}
-use Rattle.std.proofs.shelf.Tests.{cases-bool, cases-eq, cond-true, cond-false, le-leb, lt-leb, eq-eqb, ne-eqb}
+use Rattle.std.proofs.shelf.Tests.{cases-bool, cases-eq, cond-true, cond-false, le-leb, ne-eqb}
 use Rattle.std.proofs.shelf.Ways.{tells}
 use Rattle.text.specs.Fronts.{isDigit, digits, number}
-use Rattle.text.specs.Data.{isPlain, hexOf, written, encode, nibble, escape, octet, onward, run}
+use Rattle.text.specs.Data.{isPlain, hexOf, written, encode, nibble, octet, onward, run}
 use Rattle.text.specs.Back.{Bytes, Stops, NumbersBack, DataBack, Decoded}
 
 digit-more : (limit n d : ℕ) (rest : List ℕ) → d < 10 → 10 * n + d ≤ limit → digits limit n ((48 + d) ∷ rest) ≡ digits limit (10 * n + d) rest

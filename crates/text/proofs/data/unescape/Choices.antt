@@ -1,8 +1,4 @@
-use mathlib.Core.Path.{_≡_}
-use mathlib.Core.List.{_++_}
-use Prim.Native.Nat.{_-_, _≤_}
-use lib.ListN.{length, take, drop}
-use Rattle.text.specs.Data.{run}
+use Prim.Native.Nat.{_-_}
 use Rattle.text.proofs.Octets.{SoFar}
 use Rattle.text.proofs.data.unescape.Given as given
 

@@ -1,6 +1,5 @@
 use mathlib.Core.Path.{refl, sym, ap, _∙_}
 use mathlib.Core.Path.{_≡_}
-use lib.ListN.{length}
 use Rattle.std.proofs.shelf.Tests.{cond-true, cond-false, lt-ltb, le-ltb}
 use Rattle.text.specs.Fronts.{strip}
 use Rattle.text.specs.Words.{shorter}

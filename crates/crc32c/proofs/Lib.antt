@@ -1,0 +1,5 @@
+pub mod Linear
+pub mod Runs
+pub mod Bounds
+pub mod Steps
+pub mod Apart

@@ -1,0 +1,5 @@
+pub mod Waiting
+pub mod Saying
+pub mod Waking
+pub mod Moments
+pub mod Sixteen

@@ -1,0 +1,4 @@
+pub mod Measure
+pub mod Opening
+pub mod Flight
+pub mod Enough
