@@ -1,6 +1,5 @@
 -- What is read off the fields of a connection, and a connection with nothing in it.
 use mathlib.Core.Bool.{Bool, not, _&&_, _||_, false}
-use mathlib.Core.List.{[]}
 use Prim.Native.Nat.{ℕ}
 use lib.Dec.{eqb, ltb}
 use Rattle.hold.specs.World.{gone, isAsked}
@@ -38,8 +37,8 @@ abbrev pub blank : Connection
 blank = record {
   pairing = record { mine = 0; theirs = 0; phase = Asked };
   stream = record {
-    sender = record { given = 0; upto = 0; ring = [] };
-    receiver = record { got = 0; taken = 0; ring = []; kept = [] };
+    sender = record { given = 0; upto = 0 };
+    receiver = record { got = 0; taken = 0 };
     closed = false;
     sees = 0;
     all = false;

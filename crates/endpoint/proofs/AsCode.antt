@@ -25,7 +25,7 @@ use Rattle.packet.specs.Agreed.{cfgOf}
 use Rattle.packet.specs.Sizes.{capacity, textSize}
 use Rattle.packet.specs.declared.packet.Packet.{Packet}
 use Rattle.packet.specs.declared.settings.Settings.{Settings}
-use Rattle.ring.specs.Sending.{free, most}
+use Rattle.lent.specs.Sending.{free, most}
 use Rattle.table.proofs.Lodging.{all-full, there}
 use Rattle.table.specs.Search.{finds, hasRoom, isThere as isInTable}
 use Rattle.table.specs.declared.Wanted.the-variants.{Peer}
@@ -33,7 +33,7 @@ use Rattle.endpoint.specs.AsCode.{Agrees, CodeTaking, closeFits, giveFits, isD
 use Rattle.endpoint.specs.Calls.{Broken, Finished, Gave, Opened, breakNumber, closeNumber, giveNumber, openNumber}
 use Rattle.endpoint.specs.Hearing.{HeardAs, hearNumber, needs, tooFar, zeroTag}
 use Rattle.endpoint.specs.Refusals.{number}
-use Rattle.endpoint.specs.Stands.{Stands, cfg as cfgIn}
+use Rattle.endpoint.specs.Stands.{Stands, cfg as cfgIn, lent}
 use Rattle.endpoint.specs.declared.Endpoint.{Endpoint}
 use Rattle.endpoint.specs.declared.Refusal.{Refusal}
 use Rattle.endpoint.specs.declared.Refusal.the-variants.{TooLong, ZeroTag, TooFar, NotThere as NoSuch, Closed, Full, TagThere, AllGiven}
@@ -79,10 +79,10 @@ fields p h = let (a, f) = and-parts _ _ h in let (b, _) = and-parts _ _ a in let
 
 module _ (x : Endpoint) (e : End) (s : Stands x e) where
   room-there : roomFor e ≡ true → hasRoom (x .table) ≡ true
-  room-there h = ⊎-elim (λ r. r) (λ r. absurd (omega (arith, all-full (cfgIn x) (x .table) (s .table) r, ltb-true (living (e .conns)) 16 h))) (cases-bool (hasRoom (x .table)))
+  room-there h = ⊎-elim (λ r. r) (λ r. absurd (omega (arith, all-full (cfgIn x) (lent x) (x .table) (s .table) r, ltb-true (living (e .conns)) 16 h))) (cases-bool (hasRoom (x .table)))
 
   tag-free : (t : ℕ) → isIn t (tags (e .conns)) ≡ false → isInTable t (x .table) ≡ false
-  tag-free t h = ⊎-elim (λ r. false-true _ h (there (cfgIn x) (x .table) (s .table) t r)) (λ r. r) (cases-bool (isInTable t (x .table)))
+  tag-free t h = ⊎-elim (λ r. false-true _ h (there (cfgIn x) (lent x) (x .table) (s .table) t r)) (λ r. r) (cases-bool (isInTable t (x .table)))
 
   open-taken : (t : ℕ) → eqb t 0 ≡ false → roomFor e ≡ true → isIn t (tags (e .conns)) ≡ false → openNumber x t ≡ 0
   open-taken t z r f = chain (eqb t 0) (hasRoom (x .table)) (isInTable t (x .table)) z (room-there r) (tag-free t f)

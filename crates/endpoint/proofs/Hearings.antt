@@ -16,23 +16,24 @@ use Rattle.hold.specs.World.{Found, NotThere, There, Who, World, added, byTag, 
 use Rattle.packet.specs.Sizes.{textSize}
 use Rattle.connection.specs.Fields.{partner}
 use Rattle.connection.specs.Phases.{phaseOf}
-use Rattle.connection.specs.Stand.{ActsAs, Stand1}
+use Rattle.connection.specs.Stand.{ActsAs, Fresh, Rings, Stand1}
 use Rattle.connection.specs.declared.connection.Connection.{Connection}
 use Rattle.lanes.specs.Used.{used}
 use Rattle.table.specs.Grows.{Grown}
 use Rattle.table.specs.Search.{at, finds, hasRoom, isThere}
 use Rattle.table.specs.declared.Wanted.the-variants.{Peer, Tag}
 use Rattle.endpoint.specs.Hearing.{cause, hearNumber, needs, tooFar, zeroTag}
-use Rattle.endpoint.specs.Stands.{Stands, cfg}
+use Rattle.endpoint.specs.Stands.{Sized, Stands, cfg, lent}
 use Rattle.endpoint.specs.Steps.{After, Heard}
 use Rattle.endpoint.specs.declared.Endpoint.{Endpoint}
-use Rattle.endpoint.proofs.Ends.{Beside, Is, after-put, after-same, changed-some, finding, missing, no-peer, one-more, peer}
+use Rattle.endpoint.proofs.Memory.{Beside}
+use Rattle.endpoint.proofs.Ends.{Is, after-put, after-same, changed-some, finding, missing, no-peer, one-more, peer}
 
 -- a packet that changes the connection that it is for, if that is one with its sender, and no other
 module _ (x : Endpoint) (o : Who) (w : World) (s : Stands x (end o w)) (p : Packet) (on : Found → World) (f : Conn → Conn)
     (there : (c : Conn) → on (There c) ≡ cond (not (isAsked (c .phase)) && eqb (c .theirs) (p .from)) (put o (changed (c .mine) f (end o w)) [] [] w) w)
     (l : ℕ) (h : Some l ≡ finds (Tag (p .to)) (x .table)) where
-  test : (g : Is (cfg x) (at (x .table) l) (p .to) (byTag (p .to) (end o w .conns))) → partner (p .from) (at (x .table) l .pairing) ≡ (not (isAsked (g .c .phase)) && eqb (g .c .theirs) (p .from))
+  test : (g : Is (cfg x) (at (x .table) l) (lent x l) (p .to) (byTag (p .to) (end o w .conns))) → partner (p .from) (at (x .table) l .pairing) ≡ (not (isAsked (g .c .phase)) && eqb (g .c .theirs) (p .from))
   test g = ap (λ (d : Conn). not (isAsked (d .phase)) && eqb (d .theirs) (p .from)) (g .stand .is)
 
   pub for-other : false ≡ partner (p .from) (at (x .table) l .pairing) → After x [] o w (on (byTag (p .to) (end o w .conns)))
@@ -41,13 +42,13 @@ module _ (x : Endpoint) (o : Who) (w : World) (s : Stands x (end o w)) (p : Pack
       let e : on (byTag (p .to) (end o w .conns)) ≡ w = ap on (g .there) ∙ there (g .c) ∙ cond-false _ (put o (changed (g .c .mine) f (end o w)) [] [] w) w (sym (t ∙ test g)) in
       subst (λ (v : World). After x [] o w v) (sym e) (after-same x o w s)
 
-  pub for-it : (y : Endpoint) (b : Beside x y) (z : Connection) → y .table .conns ≡ set (x .table .conns) l z → used (y .table .lanes) ≡ used (x .table .lanes) →
-      true ≡ partner (p .from) (at (x .table) l .pairing) → ActsAs (cfg x) (at (x .table) l) z f → After y [] o w (on (byTag (p .to) (end o w .conns)))
+  pub for-it : (y : Endpoint) (b : Beside l x y) (z : Connection) → y .table .conns ≡ set (x .table .conns) l z → used (y .table .lanes) ≡ used (x .table .lanes) →
+      true ≡ partner (p .from) (at (x .table) l .pairing) → (Sized x → ActsAs (cfg x) (at (x .table) l) (lent x l) z (lent y l) f) → After y [] o w (on (byTag (p .to) (end o w .conns)))
   for-it y b z ec en t acts =
       let g = finding x (end o w) s (p .to) l h in
       let e : on (byTag (p .to) (end o w .conns)) ≡ put o (changed (p .to) f (end o w)) [] [] w =
       ap on (g .there) ∙ there (g .c) ∙ cond-true _ (put o (changed (g .c .mine) f (end o w)) [] [] w) w (sym (t ∙ test g)) ∙ ap (λ k. put o (changed k f (end o w)) [] [] w) (g .mine) in
-      subst (λ (v : World). After y [] o w v) (sym e) (after-put y [] o (changed (p .to) f (end o w)) [] w (changed-some x (end o w) s y b (p .to) l z f ec en h acts))
+      subst (λ (v : World). After y [] o w v) (sym e) (after-put y [] o (changed (p .to) f (end o w)) [] w (changed-some x (end o w) s l y b (p .to) z f ec en h acts))
 
 -- a packet for nobody: nothing happens, or a bye goes back
 module _ (x : Endpoint) (o : Who) (w : World) (s : Stands x (end o w)) (p : Packet) (h : None ≡ finds (Tag (p .to)) (x .table)) where
@@ -61,16 +62,16 @@ module _ (x : Endpoint) (o : Who) (w : World) (s : Stands x (end o w)) (p : Pack
 -- a yes is heard
 module _ (x : Endpoint) (o : Who) (w : World) (s : Stands x (end o w)) (p : Packet) (l : ℕ) (h : Some l ≡ finds (Tag (p .to)) (x .table)) where
   -- the model's test by that of the code
-  asked : (b : Bool) → b ≡ isAsked (phaseOf (at (x .table) l .pairing .phase)) → (f : Is (cfg x) (at (x .table) l) (p .to) (byTag (p .to) (end o w .conns))) → isAsked (f .c .phase) ≡ b
+  asked : (b : Bool) → b ≡ isAsked (phaseOf (at (x .table) l .pairing .phase)) → (f : Is (cfg x) (at (x .table) l) (lent x l) (p .to) (byTag (p .to) (end o w .conns))) → isAsked (f .c .phase) ≡ b
   asked b e f = sym (e ∙ ap (λ (d : Conn). isAsked (d .phase)) (f .stand .is))
 
-  pub yes-asked : (y : Endpoint) (b : Beside x y) (z : Connection) → y .table .conns ≡ set (x .table .conns) l z → used (y .table .lanes) ≡ used (x .table .lanes) →
-      true ≡ isAsked (phaseOf (at (x .table) l .pairing .phase)) → ActsAs (cfg x) (at (x .table) l) z (openWith (p .from)) → After y [] o w (onYes o p (byTag (p .to) (end o w .conns)) w)
+  pub yes-asked : (y : Endpoint) (b : Beside l x y) (z : Connection) → y .table .conns ≡ set (x .table .conns) l z → used (y .table .lanes) ≡ used (x .table .lanes) →
+      true ≡ isAsked (phaseOf (at (x .table) l .pairing .phase)) → (Sized x → ActsAs (cfg x) (at (x .table) l) (lent x l) z (lent y l) (openWith (p .from))) → After y [] o w (onYes o p (byTag (p .to) (end o w .conns)) w)
   yes-asked y b z ec en t acts =
       let f = finding x (end o w) s (p .to) l h in
       subst (λ (m : Found). After y [] o w (onYes o p m w)) (sym (f .there))
       (rw (asked true t f, f .mine)
-      (after-put y [] o (changed (p .to) (openWith (p .from)) (end o w)) [] w (changed-some x (end o w) s y b (p .to) l z (openWith (p .from)) ec en h acts)))
+      (after-put y [] o (changed (p .to) (openWith (p .from)) (end o w)) [] w (changed-some x (end o w) s l y b (p .to) z (openWith (p .from)) ec en h acts)))
 
   pub yes-same : false ≡ isAsked (phaseOf (at (x .table) l .pairing .phase)) → at (x .table) l .pairing .theirs ≡ p .from → After x [] o w (onYes o p (byTag (p .to) (end o w .conns)) w)
   yes-same t e =
@@ -114,14 +115,14 @@ module _ (x : Endpoint) (o : Who) (w : World) (s : Stands x (end o w)) (p : Pack
     pub ask-zero : t ≡ 0 → After x [] o w (onAsk o p t (byTheirs (p .from) (end o w .conns)) w)
     ask-zero z = ask-not (and-right (end o w .listens) (not (isIn t (w .drawn)) && not (eqb t 0)) (and-right (not (isIn t (w .drawn))) (not (eqb t 0)) (ap not (eq-eqb t 0 z))))
 
-    pub ask-new : (y : Endpoint) (b : Beside x y) (l : ℕ) (z : Connection) → Grown (x .table) (y .table) z (Some l) → x .listens ≡ true → isIn t (w .drawn) ≡ false → (t ≡ 0 → ⊥) →
-        Stand1 (cfg x) z (new Half t (p .from)) → (q : Packet) → q ≡ bare Yes t (p .from) → After y (q ∷ []) o w (onAsk o p t (byTheirs (p .from) (end o w .conns)) w)
-    ask-new y b l z g n d n0 st q e =
+    pub ask-new : (y : Endpoint) (l : ℕ) (b : Beside l x y) (z : Connection) → Grown (x .table) (y .table) z (Some l) → x .listens ≡ true → isIn t (w .drawn) ≡ false → (t ≡ 0 → ⊥) →
+        (Sized x → Fresh (lent y l)) → ((mem : Rings) → Fresh mem → Stand1 (cfg x) z mem (new Half t (p .from))) → (q : Packet) → q ≡ bare Yes t (p .from) → After y (q ∷ []) o w (onAsk o p t (byTheirs (p .from) (end o w .conns)) w)
+    ask-new y l b z g n d n0 fresh st q e =
         let test : takes-it ≡ true = and-from (end o w .listens) (not (isIn t (w .drawn)) && not (eqb t 0)) (sym (s .listens) ∙ n) (and-from (not (isIn t (w .drawn))) (not (eqb t 0)) (ap not d) (ap not (ne-eqb t 0 n0))) in
         subst (λ (m : Found). After y (q ∷ []) o w (onAsk o p t m w)) (sym (no-peer x (end o w) s (p .from) h))
         (subst (λ (v : World). After y (q ∷ []) o w v) (sym (cond-true takes-it one w test))
         (subst (λ (r : Packet). After y (q ∷ []) o w (put o (added (new Half t (p .from)) (end o w)) (r ∷ []) (t ∷ []) w)) e
-        (after-put y (q ∷ []) o (added (new Half t (p .from)) (end o w)) (t ∷ []) w (one-more x (end o w) s y b l z (new Half t (p .from)) g st))))
+        (after-put y (q ∷ []) o (added (new Half t (p .from)) (end o w)) (t ∷ []) w (one-more x (end o w) s l y b z (new Half t (p .from)) g fresh st))))
 
 -- the first cause, by what was found out in this order
 module _ (x : Endpoint) (p : Packet) (t : ℕ) (needed : Bool) (n : needed ≡ needs x p) (short : length (p .text) ≤ textSize) where

@@ -13,7 +13,7 @@ use Rattle.std.specs.declared.option.Option.the-variants.{Some, None}
 use Rattle.hold.specs.Conn.{Conn, takes}
 use Rattle.hold.specs.World.{End, Takes, changed, end, gone}
 use Rattle.connection.specs.Fields.{blank}
-use Rattle.connection.specs.Stand.{Drained, LeftOver}
+use Rattle.connection.specs.Stand.{Drained, LeftOver, Rings}
 use Rattle.connection.specs.declared.connection.Connection.{Connection}
 use Rattle.lanes.specs.Used.{isIn, used, without}
 use Rattle.lanes.proofs.Orders.{used-separate}
@@ -24,10 +24,11 @@ use Rattle.table.specs.declared.Wanted.the-variants.{Gone, Tag}
 use Rattle.table.proofs.Housing.{lane-low, seek-finds}
 use Rattle.table.proofs.Lodging.{drained, removed}
 use Rattle.endpoint.specs.Calls.{TookLeft, laneOf}
-use Rattle.endpoint.specs.Stands.{Stands, cfg}
+use Rattle.endpoint.specs.Stands.{Stands, cfg, lent}
 use Rattle.endpoint.specs.Steps.{Steps}
 use Rattle.endpoint.specs.declared.Endpoint.{Endpoint}
-use Rattle.endpoint.proofs.Ends.{Beside, after-put, changed-none, stands-by}
+use Rattle.endpoint.proofs.Memory.{Beside}
+use Rattle.endpoint.proofs.Ends.{after-put, changed-none, stands-by}
 
 -- a tag that is there, by what was found
 pub there-living : (x : Endpoint) (tag l : ℕ) → Some l ≡ finds (Tag tag) (x .table) → isThere tag (x .table) ≡ true
@@ -54,14 +55,14 @@ module _ (x : Endpoint) (tag l : ℕ) (no : None ≡ finds (Tag tag) (x .table))
   named = eqb-true (at (x .table) l .pairing .mine) tag (and-parts (isGone (at (x .table) l)) (eqb (at (x .table) l .pairing .mine) tag) (found .1) .1)
 
   -- the lane is let go
-  pub let-go : (y : Endpoint) → Beside x y → y .table .conns ≡ x .table .conns → used (y .table .lanes) ≡ without l (used (x .table .lanes)) → (e : End) → Stands x e → Stands y e
-  let-go y b ec en e s = stands-by x y e (e .conns) b s (removed (cfg x) (x .table) (s .table) (y .table) l over ec en)
+  pub let-go : (y : Endpoint) → Beside l x y → lent y ≡ lent x → y .table .conns ≡ x .table .conns → used (y .table .lanes) ≡ without l (used (x .table .lanes)) → (e : End) → Stands x e → Stands y e
+  let-go y b em ec en e s = stands-by x y e (e .conns) b s (subst (λ (mem : ℕ → Rings). Lodges (cfg x) mem (y .table) (e .conns)) (sym em) (removed (cfg x) (lent x) (x .table) (s .table) (y .table) l over ec en))
 
   -- more is taken of what is left
-  module _ (y : Endpoint) (b : Beside x y) (z : Connection) (ec : y .table .conns ≡ set (x .table .conns) l z) (en : used (y .table .lanes) ≡ used (x .table .lanes))
-      (before out : List ℕ) (n : ℕ) (took : (c : Conn) → LeftOver (cfg x) (at (x .table) l) c → Drained (cfg x) (at (x .table) l) z c before out n) where
-    spent : (e : End) (s : Stands x e) → Lodges (cfg x) (y .table) (e .conns) × ((d : Conn) × List·Memᴰ d (e .conns) × (gone (d .phase) ≡ true) × LeftOver (cfg x) (at (x .table) l) d)
-    spent e s = drained (cfg x) (x .table) (s .table) (y .table) l z (found .0) over ec en (λ c q. took c q .left)
+  module _ (y : Endpoint) (b : Beside l x y) (z : Connection) (ec : y .table .conns ≡ set (x .table .conns) l z) (en : used (y .table .lanes) ≡ used (x .table .lanes))
+      (before out : List ℕ) (n : ℕ) (took : (c : Conn) → LeftOver (cfg x) (at (x .table) l) (lent x l) c → Drained (cfg x) (at (x .table) l) z (lent y l) c before out n) where
+    spent : (e : End) (s : Stands x e) → Lodges (cfg x) (lent y) (y .table) (e .conns) × ((d : Conn) × List·Memᴰ d (e .conns) × (gone (d .phase) ≡ true) × LeftOver (cfg x) (at (x .table) l) (lent x l) d)
+    spent e s = drained (cfg x) (lent x) (x .table) (s .table) (y .table) (lent y) l z (b .others) (found .0) over ec en (λ c q. took c q .left)
 
     pub takes-steps : Steps x y [] (λ o. Takes o tag (length before))
     takes-steps = record {
@@ -81,5 +82,5 @@ module _ (x : Endpoint) (tag l : ℕ) (no : None ≡ finds (Tag tag) (x .table))
       there = r .1;
       gone = r .2;
       mine = sym (r .3 .mine) ∙ named;
-      took = subst (λ (k : Connection). Drained (cfg x) (at (x .table) l) k (r .0) before out n) (sym here) (took (r .0) (r .3));
+      took = subst (λ (k : Connection). Drained (cfg x) (at (x .table) l) k (lent y l) (r .0) before out n) (sym here) (took (r .0) (r .3));
     }

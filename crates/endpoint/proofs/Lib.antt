@@ -1,3 +1,4 @@
+pub mod Memory
 pub mod Ends
 pub mod Users
 pub mod AsCode

@@ -9,12 +9,12 @@ use Rattle.hold.specs.Conn.{Conn, says}
 use Rattle.hold.specs.Packet.{Packet, Settings}
 use Rattle.hold.specs.World.{End, Found, NotThere, There, Who, World, byTag, end, isOpen, put, saysIf}
 use Rattle.connection.specs.Phases.{phaseOf}
-use Rattle.connection.specs.Stand.{Stand1}
+use Rattle.connection.specs.Stand.{Rings, Stand1}
 use Rattle.connection.specs.declared.connection.Connection.{Connection}
 use Rattle.table.specs.Search.{at, finds}
 use Rattle.table.specs.declared.Wanted.the-variants.{Tag}
 use Rattle.endpoint.specs.Saying.{uptoOf}
-use Rattle.endpoint.specs.Stands.{Stands, cfg}
+use Rattle.endpoint.specs.Stands.{Stands, cfg, lent}
 use Rattle.endpoint.specs.Steps.{After}
 use Rattle.endpoint.specs.declared.Endpoint.{Endpoint}
 use Rattle.endpoint.proofs.Ends.{after-out, finding, missing}
@@ -23,11 +23,11 @@ module _ (x : Endpoint) (o : Who) (w : World) (s : Stands x (end o w)) (tag : �
   pub says-none : None ≡ finds (Tag tag) (x .table) → out ≡ f NotThere → After x out o w (put o (end o w) (f (byTag tag (end o w .conns))) [] w)
   says-none h e = after-out x out o (end o w) (f (byTag tag (end o w .conns))) w (e ∙ sym (ap f (missing x (end o w) s tag h))) s
 
-  pub says-of : (l : ℕ) → Some l ≡ finds (Tag tag) (x .table) → ((c : Conn) → Stand1 (cfg x) (at (x .table) l) c → out ≡ f (There c)) → After x out o w (put o (end o w) (f (byTag tag (end o w .conns))) [] w)
+  pub says-of : (l : ℕ) → Some l ≡ finds (Tag tag) (x .table) → ((c : Conn) → Stand1 (cfg x) (at (x .table) l) (lent x l) c → out ≡ f (There c)) → After x out o w (put o (end o w) (f (byTag tag (end o w .conns))) [] w)
   says-of l h e = let g = finding x (end o w) s tag l h in after-out x out o (end o w) (f (byTag tag (end o w .conns))) w (e (g .c) (g .stand) ∙ sym (ap f (g .there))) s
 
 -- what an open connection may say, and one that is not
-module _ (k : Settings) (x : Connection) (c : Conn) (s : Stand1 k x c) (p n : ℕ) where
+module _ (k : Settings) {mem : Rings} (x : Connection) (c : Conn) (s : Stand1 k x mem c) (p n : ℕ) where
   open-is : isOpen (c .phase) ≡ isOpen (phaseOf (x .pairing .phase))
   open-is = ap (λ (d : Conn). isOpen (d .phase)) (sym (s .is))
 

@@ -8,12 +8,12 @@ use lib.ListN.{length}
 use Rattle.hold.specs.Conn.{Conn}
 use Rattle.hold.specs.Packet.{Settings}
 use Rattle.hold.specs.World.{There}
-use Rattle.ring.specs.Sending.{free, most}
-use Rattle.connection.specs.Stand.{Stand1}
+use Rattle.lent.specs.Sending.{free, most}
+use Rattle.connection.specs.Stand.{Rings, Stand1}
 use Rattle.connection.specs.declared.connection.Connection.{Connection}
 use Rattle.endpoint.specs.Calls.{giveNumber}
 
-module _ (k : Settings) (x : Connection) (c : Conn) (s : Stand1 k x c) where
+module _ (k : Settings) {mem : Rings} (x : Connection) (c : Conn) (s : Stand1 k x mem c) where
   given-is : x .stream .sender .given ≡ length (c .given)
   given-is = s .waits .given-all ∙ ap (λ (d : Conn). length (d .given)) (s .is)
 

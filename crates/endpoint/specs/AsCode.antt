@@ -14,7 +14,7 @@ use Rattle.hold.specs.Packet as m
 use Rattle.hold.specs.Promise.{tags}
 use Rattle.hold.specs.World.{Breaks, Closes, Due, End, Ev, Forgets, Found, Gives, Hears, Listens, NotThere, Opens, Sends, Takes, There, Who, byTag, isIn}
 use Rattle.packet.specs.declared.packet.Packet.{Packet}
-use Rattle.ring.specs.Sending.{free}
+use Rattle.lent.specs.Sending.{free}
 use Rattle.endpoint.specs.Calls.{Broken, Finished, Gave, Opened, Taken}
 use Rattle.endpoint.specs.Hearing.{HeardAs}
 use Rattle.endpoint.specs.Stands.{Stands}

@@ -13,14 +13,14 @@ use Rattle.hold.specs.Conn.{Conn}
 use Rattle.hold.specs.World.{Breaks, Closes, End, Forgets, Found, Gives, NotThere, Opens, Takes, There, Who, World, byTag, end, gone, isIn, step}
 use Rattle.packet.specs.Packets.{packet, sent}
 use Rattle.packet.specs.declared.packet.Packet.{Packet}
-use Rattle.ring.specs.Sending.{free, most}
+use Rattle.lent.specs.Sending.{free, most}
 use Rattle.connection.specs.Stand.{Drained, Took}
 use Rattle.lanes.specs.Used.{used}
 use Rattle.table.specs.Grows.{less}
 use Rattle.table.specs.Search.{at, finds, hasRoom, isThere, orElse}
 use Rattle.table.specs.declared.Wanted.the-variants.{Gone, Tag}
 use Rattle.endpoint.specs.Refusals.{number}
-use Rattle.endpoint.specs.Stands.{Stands, cfg}
+use Rattle.endpoint.specs.Stands.{Stands, cfg, lent}
 use Rattle.endpoint.specs.Steps.{After, Steps}
 use Rattle.endpoint.specs.declared.Endpoint.{Endpoint}
 use Rattle.endpoint.specs.declared.Refusal.{Refusal}
@@ -88,7 +88,7 @@ pub record TookLeft (x y : Endpoint) (tag : ℕ) (before out : List ℕ) (n : �
   pub there : List·Memᴰ conn (e .conns)
   pub gone : gone (conn .phase) ≡ true
   pub mine : conn .mine ≡ tag
-  pub took : Drained (cfg x) (at (x .table) lane) (at (y .table) lane) conn before out n
+  pub took : Drained (cfg x) (at (x .table) lane) (at (y .table) lane) (lent y lane) conn before out n
 
 -- n bytes taken, which stand at the front of out; of a connection that is gone too, for which the model has no step
 pub record TookSome (x y : Endpoint) (tag : ℕ) (before out : List ℕ) (n : ℕ) : Type 0 where

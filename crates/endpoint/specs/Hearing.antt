@@ -14,7 +14,7 @@ use Rattle.hold.specs.Packet as m
 use Rattle.packet.specs.Packets.{sent}
 use Rattle.packet.specs.Sizes.{textSize}
 use Rattle.packet.specs.declared.packet.Packet.{Packet}
-use Rattle.ring.specs.Sending.{most}
+use Rattle.lent.specs.Sending.{most}
 use Rattle.table.specs.Search.{finds, hasRoom, isThere}
 use Rattle.table.specs.declared.Wanted.the-variants.{Peer}
 use Rattle.endpoint.specs.Calls.{Refused}

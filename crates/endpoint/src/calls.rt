@@ -6,7 +6,7 @@ ghost use mathlib.Core.Path.{_≡_};
 ghost use Rattle.hold.specs.Code.{living};
 ghost use Rattle.hold.specs.Promise.{tags};
 ghost use Rattle.hold.specs.World.{End, Listens, Who, end, isIn, start};
-ghost use Rattle.ring.specs.Sending.{most};
+ghost use Rattle.lent.specs.Sending.{most};
 ghost use Rattle.table.specs.Search.{hasRoom, isThere};
 ghost use Rattle.packet.specs.Agreed.{cfgOf};
 ghost use Rattle.endpoint.specs.AsCode.{Agrees, CodeTaking};
@@ -14,13 +14,18 @@ ghost use Rattle.endpoint.specs.Calls.{Broken, Finished, Forgotten, Gave, Open
 ghost use Rattle.endpoint.specs.Stands.{Stands};
 ghost use Rattle.endpoint.specs.Steps.{Steps};
 use crate::Endpoint;
+use crate::LANES;
+use crate::RINGS;
 use crate::Refusal;
 use connection::connection::Connection;
+use connection::memory::ready;
 use connection::phase::Phase;
+use lent::bits::WORDS;
+use lent::sender::MOST;
 use packet::packet::Kind;
 use packet::packet::Packet;
+use packet::settings::CAPACITY;
 use packet::settings::Settings;
-use ring::sender::MOST;
 use table::Table;
 use table::Wanted;
 
@@ -31,17 +36,31 @@ fn is_beyond(given: u64, bytes: &[u8]) -> bool
     given >= MOST && bytes.len() > 0
 }
 
-impl Endpoint {
-    /// An end with no connection, which takes no asks.
-    pub fn new(settings: Settings) -> Endpoint
+impl<'m> Endpoint<'m> {
+    /// An end with no connection, which takes no asks, over memory that may hold anything.
+    pub fn new(
+        settings: Settings,
+        memory: &'m mut [[u8; CAPACITY]; RINGS],
+        bits: &'m mut [[u64; WORDS]; LANES],
+    ) -> Endpoint<'m>
         ensures stands { λ r. ⌜ ((o : Who) → Stands r (end o start)) ⌝ }
         ensures settings { λ r. ⌜ r .settings ≡ settings ⌝ }
     {
         Endpoint {
             table: Table::new(),
+            memory,
+            bits,
             listens: false,
             settings,
         }
+    }
+
+    /// An end as a new one, over the same memory.
+    pub fn restart(self, settings: Settings) -> Endpoint<'m>
+        ensures stands { λ r. ⌜ ((o : Who) → Stands r (end o start)) ⌝ }
+        ensures settings { λ r. ⌜ r .settings ≡ settings ⌝ }
+    {
+        Endpoint::new(settings, self.memory, self.bits)
     }
 
     /// Whether asks open connections from now on.
@@ -64,9 +83,11 @@ impl Endpoint {
         if self.table.has(tag) {
             return Err(Refusal::TagThere);
         }
-        let Some(_) = self.table.add(Connection::new(Phase::Asked, tag, 0)) else {
+        let Some(lane) = self.table.add(Connection::new(Phase::Asked, tag, 0)) else {
             return Err(Refusal::Full);
         };
+        let rings = &*self.memory;
+        ready(&rings[2 * lane], &rings[2 * lane + 1], &mut self.bits[lane]);
         Ok(Packet::bare(Kind::Ask, tag, 0))
     }
 
@@ -99,7 +120,7 @@ impl Endpoint {
         if is_beyond(c.stream.sender.given, bytes) {
             return Err(Refusal::AllGiven);
         }
-        let (given, n) = c.give(bytes);
+        let (given, n) = c.give(&mut self.memory[2 * lane], bytes);
         self.table.conns[lane] = given;
         Ok(n)
     }
@@ -123,12 +144,14 @@ impl Endpoint {
         ensures { λ r. ⌜ Taken (now (self .entry)) (now (self .exit)) tag (now (out .entry)) (now (out .exit)) r ⌝ }
     {
         if let Some(lane) = self.table.find(Wanted::Tag(tag)) {
-            let (taken, n) = self.table.conns[lane].take(out);
+            let rings = &*self.memory;
+            let (taken, n) = self.table.conns[lane].take(&rings[2 * lane + 1], out);
             self.table.conns[lane] = taken;
             return Ok(n);
         }
         if let Some(lane) = self.table.find(Wanted::Gone(tag)) {
-            let (drained, n) = self.table.conns[lane].take(out);
+            let rings = &*self.memory;
+            let (drained, n) = self.table.conns[lane].take(&rings[2 * lane + 1], out);
             self.table.conns[lane] = drained;
             return Ok(n);
         }

@@ -6,18 +6,19 @@ ghost use Prim.Native.Nat.{ℕ, _+_, _≤_};
 ghost use lib.ListN.{length};
 ghost use Rattle.hold.specs.Packet.{Bye, Text, Yes};
 ghost use Rattle.packet.specs.Packets.{packetOf, sent};
-ghost use Rattle.ring.specs.Sending.{limit};
+ghost use Rattle.lent.specs.Sending.{limit};
 ghost use Rattle.endpoint.specs.Hearing.{Asked, HeardAs, Refuses, needs, tooFar, zeroTag};
 ghost use Rattle.endpoint.specs.Steps.{Heard};
 use crate::Endpoint;
 use crate::Refusal;
 use connection::connection::Connection;
+use connection::memory::ready;
 use connection::phase::Phase;
+use lent::sender::MOST;
 use packet::packet::Head;
 use packet::packet::Kind;
 use packet::packet::Packet;
 use packet::packet::SIZE;
-use ring::sender::MOST;
 use table::Wanted;
 
 /// The largest edge of a stream: all its bytes, and the largest window.
@@ -42,7 +43,7 @@ fn is_too_far(p: Head) -> bool
     p.place > MOST || p.upto > MOST || p.edge > LAST_EDGE
 }
 
-impl Endpoint {
+impl<'m> Endpoint<'m> {
     /// Whether a packet opens a connection.
     fn needs_connection(&self, p: Head) -> bool
         ensures { λ r. ⌜ ((ts : List ℕ) → r ≡ needs (now (self .entry)) (packetOf p ts)) ⌝ }
@@ -94,7 +95,13 @@ impl Endpoint {
         };
         let c = self.table.conns[lane];
         if c.pairing.is_partner(p.from) {
-            self.table.conns[lane] = c.hear(self.settings, p, text);
+            self.table.conns[lane] = c.hear(
+                &mut self.memory[2 * lane + 1],
+                &mut self.bits[lane],
+                self.settings,
+                p,
+                text,
+            );
         }
         None
     }
@@ -113,9 +120,11 @@ impl Endpoint {
         if tag == 0 {
             return None;
         }
-        let Some(_) = self.table.add(Connection::new(Phase::Half, tag, p.from)) else {
+        let Some(lane) = self.table.add(Connection::new(Phase::Half, tag, p.from)) else {
             return None;
         };
+        let rings = &*self.memory;
+        ready(&rings[2 * lane], &rings[2 * lane + 1], &mut self.bits[lane]);
         Some(Packet::bare(Kind::Yes, tag, p.from))
     }
 

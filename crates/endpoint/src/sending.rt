@@ -6,7 +6,7 @@ use crate::Endpoint;
 use packet::packet::Packet;
 use table::Wanted;
 
-impl Endpoint {
+impl<'m> Endpoint<'m> {
     /// What is due at a tag: an ask again, a yes again, or the text from the first byte that is not confirmed.
     pub fn due(&self, tag: u64) -> Option<Packet>
         ensures { λ r. ⌜ Steps (now (self .entry)) (now (self .entry)) (sent r) (λ o. Due o tag) ⌝ }
@@ -14,7 +14,10 @@ impl Endpoint {
         let Some(lane) = self.table.find(Wanted::Tag(tag)) else {
             return None;
         };
-        self.table.conns[lane].due_now(self.settings)
+        let rings = &*self.memory;
+        self.table
+            .conns[lane]
+            .due_now(&rings[2 * lane], self.settings)
     }
 
     /// The answer to a text that brought bytes or the end; none of a connection that is not open.
@@ -28,7 +31,8 @@ impl Endpoint {
         if !c.pairing.speaks() {
             return None;
         }
-        Some(c.answer(self.settings))
+        let rings = &*self.memory;
+        Some(c.answer(&rings[2 * lane], self.settings))
     }
 
     /// A text that goes out because it may: from a place on, at most so many bytes. None where the place is confirmed already, or a text may not have so many.
@@ -48,6 +52,7 @@ impl Endpoint {
         if !c.pairing.speaks() {
             return None;
         }
-        Some(c.says(self.settings, place, most))
+        let rings = &*self.memory;
+        Some(c.says(&rings[2 * lane], self.settings, place, most))
     }
 }

@@ -3,7 +3,7 @@ use Prim.Native.Nat.{ℕ}
 
 -- bytes of a ring
 abbrev pub capacity : ℕ
-capacity = 64
+capacity = 65536
 
 -- most bytes of one text
 abbrev pub textSize : ℕ

@@ -3,8 +3,8 @@ ghost use Rattle.packet.specs.Sizes.{capacity, textSize};
 
 mod create;
 
-/// Bytes of a ring, in which the byte at a place p stands at p % ROOM.
-pub const ROOM: usize = 64;
+/// Bytes of a ring, in which the byte at a place p stands at p % CAPACITY.
+pub const CAPACITY: usize = 65536;
 
 /// What both ends agree on.
 #[derive(Clone, Copy)]

@@ -138,7 +138,7 @@ module _ (p q : Party) (x : Endpoint) (b : Book) (same : q .end ≡ x) (look : (
 
         keeps : (o : Who) (es : List Ev) → Plays p (end o (world (cfg (p .end)) es)) → Looked (end o (step (cfg (p .end)) (Takes o t (length before)) (world (cfg (p .end)) es)) .conns) b (q .book) →
             Keeps (q .book) (end o (step (cfg (p .end)) (Takes o t (length before)) (world (cfg (p .end)) es)) .conns)
-        keeps o es h l = go (byTag t (end o (world (cfg (p .end)) es) .conns)) refl (seen (cfg (p .end)) _ (h .stands .table))
+        keeps o es h l = go (byTag t (end o (world (cfg (p .end)) es) .conns)) refl (seen (cfg (p .end)) _ _ (h .stands .table))
           where
             go : (f : Found) → byTag t (end o (world (cfg (p .end)) es) .conns) ≡ f → Some v ≡ viewOf (byTag t (end o (world (cfg (p .end)) es) .conns)) → Keeps (q .book) (end o (step (cfg (p .end)) (Takes o t (length before)) (world (cfg (p .end)) es)) .conns)
             go NotThere e k = absurd (some-none (k ∙ ap viewOf e))

@@ -13,7 +13,7 @@ use Rattle.hold.specs.Packet.{Settings}
 use Rattle.hold.specs.World.{isAsked, isOpen, byTag, There}
 use Rattle.connection.specs.Fields.{blank}
 use Rattle.connection.specs.Phases.{lastOf, phaseOf}
-use Rattle.connection.specs.Stand.{Stand1}
+use Rattle.connection.specs.Stand.{Rings, Stand1}
 use Rattle.connection.specs.declared.connection.Connection.{Connection}
 use Rattle.ledger.specs.Books.{viewOf}
 use Rattle.ledger.specs.Tells.{isSaid}
@@ -28,15 +28,15 @@ use Rattle.table.proofs.Lodging.{by-tag}
 abbrev viewFrom : Connection → Bool → View
 viewFrom x b = record { peer = x .pairing .theirs; settled = not (isAsked (phaseOf (x .pairing .phase))); opened = isOpen (phaseOf (x .pairing .phase)); given = x .stream .sender .given; closed = x .stream .closed; arrived = x .stream .receiver .got; heard = isSaid (lastOf (x .stream .end)); told = x .stream .ended; upto = x .stream .sender .upto; all = x .stream .all; owes = b }
 
-pub view-is : (cfg : Settings) (x : Connection) (d : Conn) → Stand1 cfg x d → Some (viewFrom x (owes d)) ≡ viewOf (There d)
-view-is cfg x d s = let g = s .holds .got-all in let h = s .waits .given-all in let e = s .is in cc
+pub view-is : (cfg : Settings) (mem : Rings) (x : Connection) (d : Conn) → Stand1 cfg x mem d → Some (viewFrom x (owes d)) ≡ viewOf (There d)
+view-is cfg mem x d s = let g = s .holds .got-all in let h = s .waits .given-all in let e = s .is in cc
 
 -- by a search
-pub look-none : (cfg : Settings) (x : Table) (cs : List Conn) (t : ℕ) → Lodges cfg x cs → None ≡ finds (Tag t) x → None ≡ viewOf (byTag t cs)
-look-none cfg x cs t h e = sym (ap viewOf (not-there (InLane cfg (x .conns)) (finds (Tag t) x) (byTag t cs) e (by-tag cfg x h t)))
+pub look-none : (cfg : Settings) (mem : ℕ → Rings) (x : Table) (cs : List Conn) (t : ℕ) → Lodges cfg mem x cs → None ≡ finds (Tag t) x → None ≡ viewOf (byTag t cs)
+look-none cfg mem x cs t h e = sym (ap viewOf (not-there (InLane cfg mem (x .conns)) (finds (Tag t) x) (byTag t cs) e (by-tag cfg mem x h t)))
 
-pub look-some : (cfg : Settings) (x : Table) (cs : List Conn) (t l : ℕ) (v : View) → Lodges cfg x cs → Some l ≡ finds (Tag t) x → ((d : Conn) → Stand1 cfg (getD (x .conns) l blank) d → Some v ≡ viewOf (There d)) → Some v ≡ viewOf (byTag t cs)
-look-some cfg x cs t l v h e f = go (is-there (InLane cfg (x .conns)) (finds (Tag t) x) (byTag t cs) l e (by-tag cfg x h t))
+pub look-some : (cfg : Settings) (mem : ℕ → Rings) (x : Table) (cs : List Conn) (t l : ℕ) (v : View) → Lodges cfg mem x cs → Some l ≡ finds (Tag t) x → ((d : Conn) → Stand1 cfg (getD (x .conns) l blank) (mem l) d → Some v ≡ viewOf (There d)) → Some v ≡ viewOf (byTag t cs)
+look-some cfg mem x cs t l v h e f = go (is-there (InLane cfg mem (x .conns)) (finds (Tag t) x) (byTag t cs) l e (by-tag cfg mem x h t))
   where
-    go : (c : Conn) × (byTag t cs ≡ There c) × InLane cfg (x .conns) l c → Some v ≡ viewOf (byTag t cs)
+    go : (c : Conn) × (byTag t cs ≡ There c) × InLane cfg mem (x .conns) l c → Some v ≡ viewOf (byTag t cs)
     go (c, q, s) = f c s ∙ sym (ap viewOf q)

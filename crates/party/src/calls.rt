@@ -12,17 +12,21 @@ use crate::Fault;
 use crate::Party;
 use crate::look::look;
 use endpoint::Endpoint;
+use endpoint::LANES;
+use endpoint::RINGS;
 use endpoint::Refusal;
 use ledger::book::Book;
 use ledger::record::Record;
 use ledger::record::View;
+use lent::bits::WORDS;
 use packet::packet::Packet;
 use packet::packet::SIZE;
+use packet::settings::CAPACITY;
 use packet::settings::Settings;
 use std::alloc::Global;
 
 /// A record after a look at its connection.
-fn noted(end: &Endpoint, r: Record) -> Record
+fn noted(end: &Endpoint<'_>, r: Record) -> Record
     ensures { λ n. ⌜ ((e : End) → Stands (now (end .entry)) e → n ≡ notedIn (e .conns) r) ⌝ }
 {
     match look(end.table(), r.tag) {
@@ -32,7 +36,7 @@ fn noted(end: &Endpoint, r: Record) -> Record
 }
 
 /// Every connection of the end is looked at, and what is seen is written down.
-fn note_all(end: &Endpoint, records: &mut Vec<Record>)
+fn note_all(end: &Endpoint<'_>, records: &mut Vec<Record>)
     ensures { λ _. ⌜ ((e : End) → Stands (now (end .entry)) e → vec-items (now (records .exit)) ≡ map (notedIn (e .conns)) (vec-items (now (records .entry)))) ⌝ }
 {
     for i in 0..records.len() {
@@ -41,7 +45,7 @@ fn note_all(end: &Endpoint, records: &mut Vec<Record>)
     }
 }
 
-impl Party {
+impl<'m> Party<'m> {
     fn look_around(&mut self)
         ensures end { λ _. ⌜ now (self .exit) .end ≡ now (self .entry) .end ⌝ }
         ensures { λ _. ⌜ Seen (now (self .entry)) (now (self .exit)) ⌝ }
@@ -49,15 +53,38 @@ impl Party {
         note_all(&self.end, &mut self.book.records);
     }
 
-    /// An end with no connection, and nothing written down.
-    pub fn new(heap: Global, settings: Settings) -> Party
+    /// An end with no connection, over memory that may hold anything, and nothing written down.
+    pub fn new(
+        heap: Global,
+        settings: Settings,
+        memory: &'m mut [[u8; CAPACITY]; RINGS],
+        bits: &'m mut [[u64; WORDS]; LANES],
+    ) -> Party<'m>
         ensures plays { λ r. ⌜ ((o : Who) → Plays r (end o start)) ⌝ }
         ensures settings { λ r. ⌜ r .end .settings ≡ settings ⌝ }
     {
         Party {
-            end: Endpoint::new(settings),
+            end: Endpoint::new(settings, memory, bits),
             book: Book::new(heap),
         }
+    }
+
+    /// As a new one, over the same memory.
+    pub fn restart(self, heap: Global, settings: Settings) -> Party<'m>
+        ensures plays { λ r. ⌜ ((o : Who) → Plays r (end o start)) ⌝ }
+        ensures settings { λ r. ⌜ r .end .settings ≡ settings ⌝ }
+    {
+        Party {
+            end: self.end.restart(settings),
+            book: Book::new(heap),
+        }
+    }
+
+    /// What is written down of the users.
+    pub fn book(&self) -> &Book
+        ensures { λ r. ⌜ now r ≡ now (self .entry) .book ⌝ }
+    {
+        &self.book
     }
 
     /// The connection with a tag that is not gone, as it is to be seen.

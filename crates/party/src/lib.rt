@@ -8,8 +8,8 @@ use endpoint::Refusal;
 use ledger::book::Book;
 
 #[derive(Drop)]
-pub struct Party {
-    pub end: Endpoint,
+pub struct Party<'m> {
+    pub end: Endpoint<'m>,
     pub book: Book,
 }
 

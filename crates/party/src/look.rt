@@ -3,7 +3,7 @@ ghost use Rattle.std.specs.declared.option.Option.the-variants.{Some};
 ghost use Rattle.hold.specs.Conn.{Conn};
 ghost use Rattle.hold.specs.Packet.{Settings};
 ghost use Rattle.hold.specs.World.{There};
-ghost use Rattle.connection.specs.Stand.{Stand1};
+ghost use Rattle.connection.specs.Stand.{Rings, Stand1};
 ghost use Rattle.connection.specs.Phases.{lastOf};
 ghost use Rattle.ledger.specs.Books.{viewOf};
 ghost use Rattle.ledger.specs.Tells.{isSaid};
@@ -16,7 +16,7 @@ use table::Wanted;
 
 /// What is to be seen of a connection.
 fn view(c: &Connection) -> View
-    ensures { λ r. ⌜ ((cfg : Settings) (d : Conn) → Stand1 cfg (now (c .entry)) d → Some r ≡ viewOf (There d)) ⌝ }
+    ensures { λ r. ⌜ ((cfg : Settings) (mem : Rings) (d : Conn) → Stand1 cfg (now (c .entry)) mem d → Some r ≡ viewOf (There d)) ⌝ }
 {
     View {
         peer: c.pairing.theirs,

@@ -6,3 +6,4 @@ pub mod Kept
 pub mod Moving
 pub mod RoundsMade
 pub mod Brings
+pub mod Obeying

@@ -18,7 +18,7 @@ use endpoint::Refusal;
 use ledger::record::View;
 use packet::packet::Kind;
 use packet::packet::Packet;
-use packet::settings::ROOM;
+use packet::settings::CAPACITY;
 use party::Fault;
 
 fn latest(net: &[Packet]) -> Option<Packet>
@@ -49,7 +49,7 @@ fn is_yes(p: &Packet) -> bool
     }
 }
 
-impl Pair {
+impl<'m> Pair<'m> {
     /// The connection of a side with a tag that is not gone, as it is to be seen.
     pub fn look(&self, side: Side, tag: u64) -> Option<View>
         ensures { λ r. ⌜ Seen (now (self .entry)) (whoOf side) tag r ⌝ }
@@ -83,7 +83,7 @@ impl Pair {
         ensures few { λ r. ⌜ AtMost 2 r ⌝ }
         ensures made { λ r. ⌜ Made1 (now (self .entry)) (now (self .exit)) (Take (whoOf side) tag capacity) r ⌝ }
     {
-        let mut out = [0; ROOM];
+        let mut out = [0; CAPACITY];
         match self.take(side, tag, &mut out) {
             Err(f) => Err(f),
             Ok(_) => Ok(1),

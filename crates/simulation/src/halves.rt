@@ -46,7 +46,7 @@ fn is_fresh(drawn: &[u64], tag: u64) -> bool
 
 /// A new connection, with a tag that was never drawn before; its ask goes out.
 pub fn open(
-    party: &mut Party,
+    party: &mut Party<'_>,
     out: &mut Vec<Packet>,
     drawn: &mut Vec<u64>,
     tag: u64,
@@ -75,7 +75,7 @@ pub fn open(
 /// The packet at a place of those that came is heard, with a tag that was never drawn before for the connection that it
 /// may open. The answer is its place from the latest.
 pub fn hear(
-    party: &mut Party,
+    party: &mut Party<'_>,
     inn: &[Packet],
     out: &mut Vec<Packet>,
     drawn: &mut Vec<u64>,
@@ -108,7 +108,7 @@ pub fn hear(
 }
 
 /// What is due at a tag goes out.
-pub fn due(party: &Party, out: &mut Vec<Packet>, tag: u64) -> Result<(), Fault>
+pub fn due(party: &Party<'_>, out: &mut Vec<Packet>, tag: u64) -> Result<(), Fault>
     ensures { λ r. ⌜ ((inn : List Packet) (ts : List ℕ) → Half (now (party .entry)) (now (party .entry)) inn (vec-items (now (out .entry))) (vec-items (now (out .exit))) ts ts (λ o _. whenOk (λ _. Due o tag ∷ []) r)) ⌝ }
 {
     let Ok(_) = out.reserve(1) else {
@@ -119,7 +119,7 @@ pub fn due(party: &Party, out: &mut Vec<Packet>, tag: u64) -> Result<(), Fault>
 }
 
 /// The answer to a text that brought bytes or the end goes out.
-pub fn answer(party: &Party, out: &mut Vec<Packet>, tag: u64) -> Result<(), Fault>
+pub fn answer(party: &Party<'_>, out: &mut Vec<Packet>, tag: u64) -> Result<(), Fault>
     ensures { λ r. ⌜ ((inn : List Packet) (ts : List ℕ) → Half (now (party .entry)) (now (party .entry)) inn (vec-items (now (out .entry))) (vec-items (now (out .exit))) ts ts (λ o w. whenOk (λ _. answerOf (now (party .entry)) o tag w) r)) ⌝ }
 {
     let Ok(_) = out.reserve(1) else {
@@ -131,7 +131,7 @@ pub fn answer(party: &Party, out: &mut Vec<Packet>, tag: u64) -> Result<(), Faul
 
 /// A text goes out because it may.
 pub fn send(
-    party: &Party,
+    party: &Party<'_>,
     out: &mut Vec<Packet>,
     tag: u64,
     place: u64,
@@ -147,7 +147,7 @@ pub fn send(
 }
 
 /// A connection is broken off; its bye goes out.
-pub fn break_off(party: &mut Party, out: &mut Vec<Packet>, tag: u64) -> Result<(), Fault>
+pub fn break_off(party: &mut Party<'_>, out: &mut Vec<Packet>, tag: u64) -> Result<(), Fault>
     ensures { λ r. ⌜ ((inn : List Packet) (ts : List ℕ) → Half (now (party .entry)) (now (party .exit)) inn (vec-items (now (out .entry))) (vec-items (now (out .exit))) ts ts (λ o _. whenOk (λ _. Breaks o tag ∷ []) r)) ⌝ }
 {
     let Ok(_) = out.reserve(1) else {

@@ -14,7 +14,7 @@ use pair::Pair;
 
 /// A pair that stands for a run of the model, always.
 #[derive(Drop)]
-pub struct Simulation {
-    pair: Pair,
+pub struct Simulation<'m> {
+    pair: Pair<'m>,
     ghost runs: { ∥ Runs pair ∥₁ },
 }

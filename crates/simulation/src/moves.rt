@@ -8,18 +8,42 @@ ghost use Rattle.simulation.specs.Shows.{Does, Placed, Shows, answers, netTo, 
 use crate::halves;
 use crate::pair::Pair;
 use crate::pair::Side;
+use endpoint::LANES;
+use endpoint::RINGS;
+use lent::bits::WORDS;
+use packet::settings::CAPACITY;
 use packet::settings::Settings;
 use party::Fault;
 use party::Party;
 use std::alloc::Global;
 
-impl Pair {
-    pub fn new(heap: Global, settings: Settings) -> Pair
+impl<'m> Pair<'m> {
+    pub fn new(
+        heap: Global,
+        settings: Settings,
+        left_memory: &'m mut [[u8; CAPACITY]; RINGS],
+        left_bits: &'m mut [[u64; WORDS]; LANES],
+        right_memory: &'m mut [[u8; CAPACITY]; RINGS],
+        right_bits: &'m mut [[u64; WORDS]; LANES],
+    ) -> Pair<'m>
         ensures { λ r. ⌜ Shows (cfgOf settings) r start ⌝ }
     {
         Pair {
-            left: Party::new(heap, settings),
-            right: Party::new(heap, settings),
+            left: Party::new(heap, settings, left_memory, left_bits),
+            right: Party::new(heap, settings, right_memory, right_bits),
+            to_left: Vec::new(heap),
+            to_right: Vec::new(heap),
+            drawn: Vec::new(heap),
+        }
+    }
+
+    /// As a new one, over the same memory.
+    pub fn restart(self, heap: Global, settings: Settings) -> Pair<'m>
+        ensures { λ r. ⌜ Shows (cfgOf settings) r start ⌝ }
+    {
+        Pair {
+            left: self.left.restart(heap, settings),
+            right: self.right.restart(heap, settings),
             to_left: Vec::new(heap),
             to_right: Vec::new(heap),
             drawn: Vec::new(heap),

@@ -4,7 +4,7 @@ ghost use Rattle.simulation.specs.Shows.{Does};
 use crate::command::Answer;
 use crate::command::Command;
 use crate::pair::Pair;
-use packet::settings::ROOM;
+use packet::settings::CAPACITY;
 use party::Fault;
 
 fn done(r: Result<(), Fault>) -> Result<Answer, Fault>
@@ -16,7 +16,7 @@ fn done(r: Result<(), Fault>) -> Result<Answer, Fault>
     }
 }
 
-impl Pair {
+impl<'m> Pair<'m> {
     /// One line of a script.
     pub fn obey(&mut self, command: Command<'_>) -> Result<Answer, Fault>
         ensures { λ r. ⌜ Does (now (self .entry)) (now (self .exit)) (events (now (self .entry)) (command .entry) r) ⌝ }
@@ -32,7 +32,7 @@ impl Pair {
                 Err(f) => Err(f),
             },
             Command::Take(side, tag) => {
-                let mut out = [0; ROOM];
+                let mut out = [0; CAPACITY];
                 match self.take(side, tag, &mut out) {
                     Ok(n) => Ok(Answer::Took(n)),
                     Err(f) => Err(f),

@@ -22,9 +22,9 @@ impl Side {
 
 /// Two parties, and all that was ever sent and all tags that were ever drawn, the oldest first.
 #[derive(Drop)]
-pub struct Pair {
-    pub left: Party,
-    pub right: Party,
+pub struct Pair<'m> {
+    pub left: Party<'m>,
+    pub right: Party<'m>,
     pub to_left: Vec<Packet>,
     pub to_right: Vec<Packet>,
     pub drawn: Vec<u64>,

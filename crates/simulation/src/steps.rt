@@ -9,16 +9,43 @@ use crate::command::Answer;
 use crate::command::Command;
 use crate::pair::Pair;
 use crate::pair::Side;
+use endpoint::LANES;
+use endpoint::RINGS;
+use lent::bits::WORDS;
+use packet::settings::CAPACITY;
 use packet::settings::Settings;
 use party::Fault;
 use std::alloc::Global;
 
-impl Simulation {
-    pub fn new(heap: Global, settings: Settings) -> Simulation
+impl<'m> Simulation<'m> {
+    pub fn new(
+        heap: Global,
+        settings: Settings,
+        left_memory: &'m mut [[u8; CAPACITY]; RINGS],
+        left_bits: &'m mut [[u64; WORDS]; LANES],
+        right_memory: &'m mut [[u8; CAPACITY]; RINGS],
+        right_bits: &'m mut [[u64; WORDS]; LANES],
+    ) -> Simulation<'m>
         ensures sentence { λ r. ⌜ Sentence (accounts (r .pair .left .book)) (accounts (r .pair .right .book)) ⌝ }
     {
         Simulation {
-            pair: Pair::new(heap, settings),
+            pair: Pair::new(
+                heap,
+                settings,
+                left_memory,
+                left_bits,
+                right_memory,
+                right_bits,
+            ),
+        }
+    }
+
+    /// As a new one, over the same memory.
+    pub fn restart(self, heap: Global, settings: Settings) -> Simulation<'m>
+        ensures sentence { λ r. ⌜ Sentence (accounts (r .pair .left .book)) (accounts (r .pair .right .book)) ⌝ }
+    {
+        Simulation {
+            pair: self.pair.restart(heap, settings),
         }
     }
 

@@ -6,7 +6,7 @@ use mathlib.Core.Path.{_≡_, refl, sym, ap, subst, _∙_}
 use Prim.Native.Nat.{ℕ, _<_}
 use native.Mathlib.Omega.{arith}
 use lib.Dec.{eqb, ltb}
-use lib.ListN.{length, set}
+use lib.ListN.{getD, length, set}
 use Rattle.std.proofs.shelf.Lists.{getD-set-other, getD-set-same}
 use Rattle.std.proofs.shelf.Tests.{and-left, and-parts, and-right, cond-both, eqb-true, false≢true, ltb-false, or-cases, or-parts}
 use Rattle.std.specs.Options.{isSome}
@@ -19,7 +19,7 @@ use Rattle.hold.specs.Promise.{tags}
 use Rattle.hold.specs.World.{isIn as isTag, byTag, byTheirs, change, gone, isAsked}
 use Rattle.connection.specs.Fields.{blank, hasPeer, hasTag}
 use Rattle.connection.specs.Phases.{phaseOf}
-use Rattle.connection.specs.Stand.{ActsAs, LeftOver, Stand1}
+use Rattle.connection.specs.Stand.{ActsAs, LeftOver, Rings, Stand1}
 use Rattle.connection.specs.declared.connection.Connection.{Connection}
 use Rattle.lanes.specs.Used.{isIn, used, without}
 use Rattle.lanes.proofs.Orders.{length-front, used-separate}
@@ -33,7 +33,7 @@ use Rattle.table.proofs.Housing.{Agree, agree, all-live, changes, elsewhere, l
 use Rattle.table.proofs.Searches.{eldest-finds, eldest-none}
 
 -- the tests of the code are those of the model
-same-tag : (cfg : Settings) (t : ℕ) (x : Connection) (c : Conn) → Stand1 cfg x c → hasTag t (x .pairing) ≡ tagged t c
+same-tag : (cfg : Settings) {mem : Rings} (t : ℕ) (x : Connection) (c : Conn) → Stand1 cfg x mem c → hasTag t (x .pairing) ≡ tagged t c
 same-tag cfg t x c s = ap (tagged t) (s .is)
 
 tag-gone : (t : ℕ) (x : Connection) → isGone x ≡ true → hasTag t (x .pairing) ≡ false
@@ -42,22 +42,22 @@ tag-gone t x g = and-right (eqb (x .pairing .mine) t) (not (isGone x)) (ap not g
 abbrev peered : ℕ → Conn → Bool
 peered t c = eqb (c .theirs) t && not (gone (c .phase)) && not (isAsked (c .phase))
 
-same-peer : (cfg : Settings) (t : ℕ) (x : Connection) (c : Conn) → Stand1 cfg x c → hasPeer t (x .pairing) ≡ peered t c
+same-peer : (cfg : Settings) {mem : Rings} (t : ℕ) (x : Connection) (c : Conn) → Stand1 cfg x mem c → hasPeer t (x .pairing) ≡ peered t c
 same-peer cfg t x c s = ap (peered t) (s .is)
 
-pub same-gone : (cfg : Settings) (x : Connection) (c : Conn) → Stand1 cfg x c → isGone x ≡ gone (c .phase)
+pub same-gone : (cfg : Settings) {mem : Rings} (x : Connection) (c : Conn) → Stand1 cfg x mem c → isGone x ≡ gone (c .phase)
 same-gone cfg x c s = ap (λ (d : Conn). gone (d .phase)) (s .is)
 
 -- of one that is gone there is left what it had
-left-of : (cfg : Settings) (x : Connection) (c : Conn) → isGone x ≡ true → Stand1 cfg x c → LeftOver cfg x c
-left-of cfg x c g s = subst (LeftOver cfg x) (s .is) (record { phase = g; over = g; mine = refl; ended = refl; kept = s .past .kept; holds = s .holds })
+left-of : (cfg : Settings) {mem : Rings} (x : Connection) (c : Conn) → isGone x ≡ true → Stand1 cfg x mem c → LeftOver cfg x mem c
+left-of cfg {mem} x c g s = subst (LeftOver cfg x mem) (s .is) (record { phase = g; over = g; mine = refl; ended = refl; kept = s .past .kept; holds = s .holds })
 
-module _ (cfg : Settings) (x : Table) {cs : List Conn} (h : Lodges cfg x cs) where
+module _ (cfg : Settings) (mem : ℕ → Rings) (x : Table) {cs : List Conn} (h : Lodges cfg mem x cs) where
   abbrev P : ℕ → Conn → Type 0
-  P = InLane cfg (x .conns)
+  P = InLane cfg mem (x .conns)
 
   abbrev Q : ℕ → Conn → Type 0
-  Q = LeftIn cfg (x .conns)
+  Q = LeftIn cfg mem (x .conns)
 
   pub by-tag : (t : ℕ) → Agree P (finds (Tag t) x) (byTag t cs)
   unfolding byTag
@@ -72,44 +72,44 @@ module _ (cfg : Settings) (x : Table) {cs : List Conn} (h : Lodges cfg x cs) whe
   low : (l : ℕ) → isIn l (used (x .lanes)) ≡ true → l < length (x .conns)
   low l m = omega (arith, lane-low l (used (x .lanes)) (used-separate (x .lanes)) m, x .sized)
 
-  -- a lane is written; the others have what they had
-  module _ (l : ℕ) (z : Connection) where
+  -- a lane is written, or its memory; the others have what they had
+  module _ (mem′ : ℕ → Rings) (l : ℕ) (z : Connection) (others : (k : ℕ) → (k ≡ l → ⊥) → mem′ k ≡ mem k) where
     abbrev P′ : ℕ → Conn → Type 0
-    P′ = InLane cfg (set (x .conns) l z)
+    P′ = InLane cfg mem′ (set (x .conns) l z)
 
     abbrev Q′ : ℕ → Conn → Type 0
-    Q′ = LeftIn cfg (set (x .conns) l z)
+    Q′ = LeftIn cfg mem′ (set (x .conns) l z)
 
     still : (k : ℕ) (c : Conn) → (k ≡ l → ⊥) → P k c → P′ k c
-    still k c ne s = subst (λ (y : Connection). Stand1 cfg y c) (sym (getD-set-other (x .conns) l k z blank ne)) s
+    still k c ne s = subst (λ (a : Rings). Stand1 cfg (getD (set (x .conns) l z) k blank) a c) (sym (others k ne)) (subst (λ (y : Connection). Stand1 cfg y (mem k) c) (sym (getD-set-other (x .conns) l k z blank ne)) s)
 
     stillQ : (k : ℕ) (c : Conn) → (k ≡ l → ⊥) → Q k c → Q′ k c
-    stillQ k c ne s = subst (λ (y : Connection). LeftOver cfg y c) (sym (getD-set-other (x .conns) l k z blank ne)) s
+    stillQ k c ne s = subst (λ (a : Rings). LeftOver cfg (getD (set (x .conns) l z) k blank) a c) (sym (others k ne)) (subst (λ (y : Connection). LeftOver cfg y (mem k) c) (sym (getD-set-other (x .conns) l k z blank ne)) s)
 
     -- the table with that lane
     module _ (y : Table) (ec : y .conns ≡ set (x .conns) l z) where
-      moved : {ls : List ℕ} {ds : List Conn} → used (y .lanes) ≡ ls → Housed P′ Q′ ls ds → Lodges cfg y ds
-      moved {ls} {ds} en t = subst (λ ks. Housed (InLane cfg (y .conns)) (LeftIn cfg (y .conns)) ks ds) (sym en) (subst (λ (zs : List Connection). Housed (InLane cfg zs) (LeftIn cfg zs) ls ds) (sym ec) t)
+      moved : {ls : List ℕ} {ds : List Conn} → used (y .lanes) ≡ ls → Housed P′ Q′ ls ds → Lodges cfg mem′ y ds
+      moved {ls} {ds} en t = subst (λ ks. Housed (InLane cfg mem′ (y .conns)) (LeftIn cfg mem′ (y .conns)) ks ds) (sym en) (subst (λ (zs : List Connection). Housed (InLane cfg mem′ zs) (LeftIn cfg mem′ zs) ls ds) (sym ec) t)
 
       -- the connection of a tag is changed
-      pub changed-lane : (t : ℕ) (f : Conn → Conn) → used (y .lanes) ≡ used (x .lanes) → Some l ≡ finds (Tag t) x → ActsAs cfg (at x l) z f → Lodges cfg y (change t f cs)
+      pub changed-lane : (t : ℕ) (f : Conn → Conn) → used (y .lanes) ≡ used (x .lanes) → Some l ≡ finds (Tag t) x → ActsAs cfg (at x l) (mem l) z (mem′ l) f → Lodges cfg mem′ y (change t f cs)
       changed-lane t f en e acts = moved en
           (changes P Q P′ Q′ t f (λ k. hasTag t (at x k .pairing)) (λ k c. same-tag cfg t (at x k) c) (λ k c q. tag-gone t (at x k) (q .phase)) l
-          (λ c s. subst (λ (w : Connection). Stand1 cfg w (f c)) (sym (getD-set-same (x .conns) l z blank (low l (seek-finds (λ k. hasTag t (at x k .pairing)) l (used (x .lanes)) e .0)))) (acts c s))
+          (λ c s. subst (λ (w : Connection). Stand1 cfg w (mem′ l) (f c)) (sym (getD-set-same (x .conns) l z blank (low l (seek-finds (λ k. hasTag t (at x k .pairing)) l (used (x .lanes)) e .0)))) (acts c s))
           still stillQ (used-separate (x .lanes)) e h)
 
   -- nobody has the tag
-  pub unchanged-all : (t : ℕ) (f : Conn → Conn) → None ≡ finds (Tag t) x → Lodges cfg x (change t f cs)
+  pub unchanged-all : (t : ℕ) (f : Conn → Conn) → None ≡ finds (Tag t) x → Lodges cfg mem x (change t f cs)
   unchanged-all t f e = unchanged P Q P Q t f (λ k. hasTag t (at x k .pairing)) (λ k c. same-tag cfg t (at x k) c) (λ k c q. tag-gone t (at x k) (q .phase)) e h
 
   -- a lane whose connection is gone is let go
   over : (l : ℕ) → isGone (at x l) ≡ true → (c : Conn) → P l c → gone (c .phase) ≡ true
   over l g c s = sym (same-gone cfg (at x l) c s) ∙ g
 
-  pub removed : (y : Table) (l : ℕ) → isGone (at x l) ≡ true → y .conns ≡ x .conns → used (y .lanes) ≡ without l (used (x .lanes)) → Lodges cfg y cs
+  pub removed : (y : Table) (l : ℕ) → isGone (at x l) ≡ true → y .conns ≡ x .conns → used (y .lanes) ≡ without l (used (x .lanes)) → Lodges cfg mem y cs
   removed y l g ec en =
-      subst (λ ks. Housed (InLane cfg (y .conns)) (LeftIn cfg (y .conns)) ks cs) (sym en)
-      (subst (λ (zs : List Connection). Housed (InLane cfg zs) (LeftIn cfg zs) (without l (used (x .lanes))) cs) (sym ec) (taken-out P Q l (over l g) h))
+      subst (λ ks. Housed (InLane cfg mem (y .conns)) (LeftIn cfg mem (y .conns)) ks cs) (sym en)
+      (subst (λ (zs : List Connection). Housed (InLane cfg mem zs) (LeftIn cfg mem zs) (without l (used (x .lanes))) cs) (sym ec) (taken-out P Q l (over l g) h))
 
   -- those that stay when one more is wanted
   remaining : Housed P Q (remain x) cs
@@ -120,10 +120,10 @@ module _ (cfg : Settings) (x : Table) {cs : List Conn} (h : Lodges cfg x cs) whe
       go (Some l) e = taken-out P Q l (over l (eldest-finds (λ k. isGone (at x k)) l (used (x .lanes)) (sym e) .1)) h
 
   -- one more is added
-  pub grown : (y : Table) (l : ℕ) (z : Connection) (c : Conn) → Grown x y z (Some l) → Stand1 cfg z c → Lodges cfg y (c ∷ cs)
-  grown y l z c (_, lt, out, en, ec) s = moved l z y ec en
-      (held (subst (λ (w : Connection). Stand1 cfg w c) (sym (getD-set-same (x .conns) l z blank (let q : l < length (x .conns) = omega (arith, x .sized) in q))) s)
-      (elsewhere P Q (P′ l z) (Q′ l z) l (still l z) (stillQ l z) out remaining))
+  pub grown : (y : Table) (mem′ : ℕ → Rings) (l : ℕ) (z : Connection) (c : Conn) → Grown x y z (Some l) → ((k : ℕ) → (k ≡ l → ⊥) → mem′ k ≡ mem k) → Stand1 cfg z (mem′ l) c → Lodges cfg mem′ y (c ∷ cs)
+  grown y mem′ l z c (_, lt, out, en, ec) others s = moved mem′ l z others y ec en
+      (held (subst (λ (w : Connection). Stand1 cfg w (mem′ l) c) (sym (getD-set-same (x .conns) l z blank (let q : l < length (x .conns) = omega (arith, x .sized) in q))) s)
+      (elsewhere P Q (P′ mem′ l z others) (Q′ mem′ l z others) l (still mem′ l z others) (stillQ mem′ l z others) out remaining))
 
   -- where there is no room, sixteen live
   pub all-full : hasRoom x ≡ false → living cs ≡ 16
@@ -158,9 +158,9 @@ module _ (cfg : Settings) (x : Table) {cs : List Conn} (h : Lodges cfg x cs) whe
           mine-of l (eqb-true (at x l .pairing .mine) t (and-parts (isGone (at x l)) (eqb (at x l .pairing .mine) t) (f .1) .1)) (f .0)
 
   -- of a connection that is gone its user takes more
-  pub drained : (y : Table) (l : ℕ) (z : Connection) → isIn l (used (x .lanes)) ≡ true → isGone (at x l) ≡ true → y .conns ≡ set (x .conns) l z → used (y .lanes) ≡ used (x .lanes) →
-      ((c : Conn) → LeftOver cfg (at x l) c → LeftOver cfg z c) → Lodges cfg y cs × ((d : Conn) × List·Memᴰ d cs × (gone (d .phase) ≡ true) × LeftOver cfg (at x l) d)
-  drained y l z m g ec en less-of =
-      let r = spent P Q (P′ l z) (Q′ l z) l (λ c s. (over l g c s, left-of cfg (at x l) c g s)) (λ c q. subst (λ (w : Connection). LeftOver cfg w c) (sym (getD-set-same (x .conns) l z blank (low l m))) (less-of c q))
-      (still l z) (stillQ l z) (used-separate (x .lanes)) m h in
-      (moved l z y ec en (r .0), r .1)
+  pub drained : (y : Table) (mem′ : ℕ → Rings) (l : ℕ) (z : Connection) → ((k : ℕ) → (k ≡ l → ⊥) → mem′ k ≡ mem k) → isIn l (used (x .lanes)) ≡ true → isGone (at x l) ≡ true → y .conns ≡ set (x .conns) l z → used (y .lanes) ≡ used (x .lanes) →
+      ((c : Conn) → LeftOver cfg (at x l) (mem l) c → LeftOver cfg z (mem′ l) c) → Lodges cfg mem′ y cs × ((d : Conn) × List·Memᴰ d cs × (gone (d .phase) ≡ true) × LeftOver cfg (at x l) (mem l) d)
+  drained y mem′ l z others m g ec en less-of =
+      let r = spent P Q (P′ mem′ l z others) (Q′ mem′ l z others) l (λ c s. (over l g c s, left-of cfg (at x l) c g s)) (λ c q. subst (λ (w : Connection). LeftOver cfg w (mem′ l) c) (sym (getD-set-same (x .conns) l z blank (low l m))) (less-of c q))
+      (still mem′ l z others) (stillQ mem′ l z others) (used-separate (x .lanes)) m h in
+      (moved mem′ l z others y ec en (r .0), r .1)

@@ -1,6 +1,6 @@
 ghost use Rattle.packet.specs.Agreed.{Made};
 use crate::packet::SIZE;
-use crate::settings::ROOM;
+use crate::settings::CAPACITY;
 use crate::settings::Settings;
 
 impl Settings {
@@ -8,7 +8,7 @@ impl Settings {
     pub fn new(room: u64, size: u64) -> Option<Settings>
         ensures { λ r. ⌜ Made room size r ⌝ }
     {
-        if room == 0 || room > ROOM as u64 || size > SIZE as u64 {
+        if room == 0 || room > CAPACITY as u64 || size > SIZE as u64 {
             return None;
         }
         Some(Settings { room, size })

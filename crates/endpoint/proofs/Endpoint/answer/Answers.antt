@@ -2,7 +2,7 @@ use mathlib.Core.Path.{refl, sym}
 use Rattle.hold.specs.World.{Found, saysIf}
 use Rattle.packet.specs.Packets.{packet}
 use Rattle.endpoint.specs.Saying.{uptoOf}
-use Rattle.endpoint.specs.Stands.{cfg}
+use Rattle.endpoint.specs.Stands.{cfg, lent}
 use Rattle.endpoint.proofs.Sayings.{mute, says-none, says-of, speaks}
 use Rattle.endpoint.proofs.Endpoint.answer.Needs as need
 
@@ -16,4 +16,4 @@ returns-then-not-speaks c = let x = c .args .self .now in λ o w s.
 pub returns : need.returns
 returns c = let x = c .args .self .now in λ o w s.
     says-of x o w s (c .args .tag) _ (λ (f : Found). saysIf (cfg x) (uptoOf f) (cfg x .size) f) (c .in-Some .lane) (c .in-Some .ensures tt .is)
-    (λ d t. speaks (cfg x) _ d t (d .upto) (cfg x .size) (sym (c .if-not-speaks .ensures tt)) (packet (c .answer .result)) (c .answer .ensures d t))
+    (λ d t. speaks (cfg x) _ d t (d .upto) (cfg x .size) (sym (c .if-not-speaks .ensures tt)) (packet (c .answer .result)) (c .answer .ensures (lent x (c .in-Some .lane) .into) (lent x (c .in-Some .lane) .bits) d t))

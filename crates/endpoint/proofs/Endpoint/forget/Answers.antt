@@ -2,7 +2,8 @@ use mathlib.Core.List.{[]}
 use mathlib.Core.Path.{refl, _∙_}
 use Rattle.hold.specs.Conn.{Gone, inPhase}
 use Rattle.hold.specs.World.{changed, end}
-use Rattle.endpoint.specs.Stands.{cfg}
+use Rattle.endpoint.specs.Stands.{cfg, lent}
+use Rattle.endpoint.proofs.Memory.{beside}
 use Rattle.endpoint.proofs.Ends.{after-put, changed-none, ended}
 use Rattle.endpoint.proofs.Leaving.{lane-gone, lane-living, let-go, there-gone, there-living}
 use Rattle.endpoint.proofs.Endpoint.forget.Needs as need
@@ -14,7 +15,7 @@ returns-in-Some c = let x = c .args .self .now in let h = c .in-Some .ensures tt
   record {
     settings = refl;
     world = λ o w s. after-put _ [] o (changed (c .args .tag) (inPhase Gone) (end o w)) [] w
-        (ended x _ (record { listens = refl; settings = refl }) (c .args .tag) (c .in-Some .lane) (c .gone .result) (c .remove .ensures .conns) (c .remove .ensures .lanes) h (c .gone .ensures (cfg x)) (end o w) s);
+        (ended x _ (c .in-Some .lane) (beside (c .in-Some .lane) x _ refl refl refl refl) refl (c .args .tag) (c .gone .result) (c .remove .ensures .conns) (c .remove .ensures .lanes) h (c .gone .ensures (cfg x) (lent x (c .in-Some .lane))) (end o w) s);
   },
 )
 
@@ -25,6 +26,6 @@ returns-in-Some-find c = let x = c .args .self .now in let no = c .in-rest .ensu
   record {
     settings = refl;
     world = λ o w s. after-put _ [] o (changed (c .args .tag) (inPhase Gone) (end o w)) [] w
-        (let-go x (c .args .tag) l no h _ (record { listens = refl; settings = refl }) (c .remove-in-Some-find .ensures .conns) (c .remove-in-Some-find .ensures .lanes) _ (changed-none x (end o w) s (c .args .tag) (inPhase Gone) no));
+        (let-go x (c .args .tag) l no h _ (beside l x _ refl refl refl refl) refl (c .remove-in-Some-find .ensures .conns) (c .remove-in-Some-find .ensures .lanes) _ (changed-none x (end o w) s (c .args .tag) (inPhase Gone) no));
   },
 )

@@ -1,6 +1,7 @@
 use mathlib.Core.Path.{refl}
 use Rattle.packet.specs.Packets.{packet, packetOf}
 use Rattle.endpoint.specs.Stands.{cfg}
+use Rattle.endpoint.proofs.Memory.{beside-bits, fresh-in}
 use Rattle.endpoint.proofs.Hearings.{ask-again, ask-deaf, ask-new, ask-zero}
 use Rattle.endpoint.proofs.Endpoint.hear_ask.Needs as need
 
@@ -25,6 +26,6 @@ returns-then-tag-eq0 c = λ ts room. record {
 pub returns : need.returns
 returns c = λ ts room. let x = c .args .self .now in record {
   settings = refl;
-  world = λ o w s d. ask-new x o w s (packetOf (c .args .p) ts) (c .args .tag) (c .in-rest .ensures tt .is) _ (record { listens = refl; settings = refl }) (c .in-Some-add .field-0) (c .new .result) (c .in-Some-add .ensures tt)
-      (c .if-not-self .left) d (c .if-tag-eq0 .left) (c .new .ensures (cfg x) (x .settings .held)) (packet (c .bare-2 .result)) (c .bare-2 .ensures);
+  world = λ o w s d. ask-new x o w s (packetOf (c .args .p) ts) (c .args .tag) (c .in-rest .ensures tt .is) _ (c .in-Some-add .lane) (beside-bits (c .in-Some-add .lane) x _ refl refl (c .ready .last .bits) refl refl) (c .new .result) (c .in-Some-add .ensures tt)
+      (c .if-not-self .left) d (c .if-tag-eq0 .left) (λ z. fresh-in (c .in-Some-add .lane) (c .in-Some-add .ensures tt .1) x z (c .ready .last .bits) (c .ready .ensures)) (λ mem. c .new .ensures (cfg x) mem (x .settings .held)) (packet (c .bare-2 .result)) (c .bare-2 .ensures);
 }

@@ -1,7 +1,8 @@
 use mathlib.Core.Path.{refl}
 use Rattle.hold.specs.World.{Found, onYes}
 use Rattle.packet.specs.Packets.{packet, packetOf}
-use Rattle.endpoint.specs.Stands.{cfg}
+use Rattle.endpoint.specs.Stands.{cfg, lent}
+use Rattle.endpoint.proofs.Memory.{beside}
 use Rattle.endpoint.proofs.Hearings.{bye-back, yes-asked, yes-other, yes-same}
 use Rattle.endpoint.proofs.Endpoint.hear_yes.Needs as need
 
@@ -14,8 +15,8 @@ returns-in-rest c = λ ts t. let p = packetOf (c .args .p) ts in record {
 pub returns-then-is-asked : need.returns-then-is-asked
 returns-then-is-asked c = λ ts t. let x = c .args .self .now in record {
   settings = refl;
-  world = λ o w s d. yes-asked x o w s (packetOf (c .args .p) ts) (c .in-Some .lane) (c .in-Some .ensures tt .is) _ (record { listens = refl; settings = refl }) (c .open-with .result) refl refl
-      (c .if-is-asked .ensures tt) (c .open-with .ensures (cfg x));
+  world = λ o w s d. yes-asked x o w s (packetOf (c .args .p) ts) (c .in-Some .lane) (c .in-Some .ensures tt .is) _ (beside (c .in-Some .lane) x _ refl refl refl refl) (c .open-with .result) refl refl
+      (c .if-is-asked .ensures tt) (λ _. c .open-with .ensures (cfg x) (lent x (c .in-Some .lane)));
 }
 
 pub returns-then-c-p : need.returns-then-c-p

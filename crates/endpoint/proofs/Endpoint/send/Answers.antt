@@ -2,7 +2,7 @@ use mathlib.Core.Path.{refl, sym}
 use native.Mathlib.Omega.{arith}
 use Rattle.hold.specs.World.{end, saysIf}
 use Rattle.packet.specs.Packets.{packet}
-use Rattle.endpoint.specs.Stands.{cfg}
+use Rattle.endpoint.specs.Stands.{cfg, lent}
 use Rattle.endpoint.proofs.Sayings.{mute, says-none, says-of, says-so, speaks, upto-is}
 use Rattle.endpoint.proofs.Endpoint.send.Needs as need
 
@@ -29,6 +29,6 @@ pub returns : need.returns
 returns c = let x = c .args .self .now in record {
   may = λ o w s a b. says-of x o w s (c .args .tag) _ (saysIf (cfg x) (c .args .place) (c .args .most)) (c .in-Some .lane) (c .in-Some .ensures tt .is)
       (λ d t. speaks (cfg x) _ d t (c .args .place) (c .args .most) (sym (c .if-not-speaks .ensures tt)) (packet (c .says .result))
-      (says-so (cfg x) _ d t (c .args .place) (c .args .most) (c .if-place-c .left) (c .if-most-self .left) (packet (c .says .result)) (c .says .ensures d t)));
+      (says-so (cfg x) _ d t (c .args .place) (c .args .most) (c .if-place-c .left) (c .if-most-self .left) (packet (c .says .result)) (c .says .ensures (lent x (c .in-Some .lane) .into) (lent x (c .in-Some .lane) .bits) d t)));
   other = λ e s n. absurd (n (omega (arith, c .if-place-c .left, upto-is x e s (c .args .tag) (c .in-Some .lane) (c .in-Some .ensures tt .is)), c .if-most-self .left));
 }

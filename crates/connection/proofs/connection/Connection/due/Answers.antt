@@ -5,4 +5,4 @@ use Rattle.connection.proofs.Texts.{due-is}
 use Rattle.connection.proofs.connection.Connection.due.Needs as need
 
 pub returns : need.returns
-returns c = due-is (cfgOf (c .args .settings)) (c .args .self .now) (c .max .result) (packet (c .text .result)) (c .args .settings .short) (omega arith) (c .text .ensures)
+returns c = due-is (cfgOf (c .args .settings)) (c .args .self .now) (c .args .ring .now) (c .max .result) (packet (c .text .result)) (c .args .settings .short) (omega arith) (c .text .ensures)

@@ -1,0 +1,5 @@
+pub mod Ring
+pub mod Bits
+pub mod Gaps
+pub mod Sending
+pub mod Rings

@@ -1,4 +1,0 @@
-pub mod Copies
-pub mod Senders
-pub mod Turns
-pub mod Receivers

@@ -1,2 +1,0 @@
-pub mod Sending
-pub mod Rings
