@@ -1,5 +1,9 @@
 use crate::report::print_book;
 use crate::report::print_packets;
+use endpoint::LANES;
+use endpoint::RINGS;
+use lent::bits::WORDS;
+use packet::settings::CAPACITY;
 use packet::settings::Settings;
 use party::Fault;
 use script::line::Call;
@@ -65,7 +69,7 @@ fn command_of<'a>(side: Side, call: Call<'_>, bytes: &'a [u8]) -> Option<Command
 }
 
 /// Makes one step, and prints its answer and what went out.
-fn make(rt: &LibcRuntime, pair: &mut Simulation, command: Command<'_>) -> Result<(), AnyError> {
+fn make(rt: &LibcRuntime, pair: &mut Simulation<'_>, command: Command<'_>) -> Result<(), AnyError> {
     let left = pair.sent_to(Side::Left).len();
     let right = pair.sent_to(Side::Right).len();
     print_answer(rt, pair.step(command))?;
@@ -75,7 +79,7 @@ fn make(rt: &LibcRuntime, pair: &mut Simulation, command: Command<'_>) -> Result
 
 fn act(
     rt: &LibcRuntime,
-    pair: &mut Simulation,
+    pair: &mut Simulation<'_>,
     side: Side,
     call: Call<'_>,
 ) -> Result<(), AnyError> {
@@ -92,7 +96,7 @@ fn act(
 }
 
 /// Does what a line says.
-fn obey(rt: &LibcRuntime, pair: &mut Simulation, line: Line<'_>) -> Result<(), AnyError> {
+fn obey(rt: &LibcRuntime, pair: &mut Simulation<'_>, line: Line<'_>) -> Result<(), AnyError> {
     match line {
         Line::Act {
             side: Some(side),
@@ -127,7 +131,16 @@ pub fn run(rt: &LibcRuntime) -> Result<(), AnyError> {
     let Some(settings) = Settings::new(ROOM, SIZE) else {
         return Ok(());
     };
-    let mut pair = Simulation::new(rt.alloc(), settings);
+    let (mut left_memory, mut left_bits) = ([[0; CAPACITY]; RINGS], [[0; WORDS]; LANES]);
+    let (mut right_memory, mut right_bits) = ([[0; CAPACITY]; RINGS], [[0; WORDS]; LANES]);
+    let mut pair = Simulation::new(
+        rt.alloc(),
+        settings,
+        &mut left_memory,
+        &mut left_bits,
+        &mut right_memory,
+        &mut right_bits,
+    );
     let mut begun = false;
     for (at, text) in rt.lines(rt.alloc()).enumerate() {
         let text = text?;
@@ -141,7 +154,7 @@ pub fn run(rt: &LibcRuntime) -> Result<(), AnyError> {
         };
         println!(rt, "{text}")?;
         match settings_of(line) {
-            Some(s) if !begun => pair = Simulation::new(rt.alloc(), s),
+            Some(s) if !begun => pair = pair.restart(rt.alloc(), s),
             _ => obey(rt, &mut pair, line)?,
         }
         if let Line::Act { .. } | Line::Bring { .. } = line {
