@@ -23,8 +23,8 @@ use Rattle.hold.proofs.Inv.{apart-at, inv}
 use Rattle.hold.proofs.SelfRounds.{left-most}
 use Rattle.hold.proofs.Table.{byTag-mem, one-tag}
 use Rattle.packet.specs.Sizes.{capacity}
-use Rattle.ring.specs.Sending.{most}
-use Rattle.connection.specs.Stand.{Stand1}
+use Rattle.lent.specs.Sending.{most}
+use Rattle.connection.specs.Stand.{Rings, Stand1}
 use Rattle.table.specs.Lodges.{InLane, Lodges}
 use Rattle.table.specs.Search.{finds}
 use Rattle.table.specs.declared.Table.{Table}
@@ -51,10 +51,10 @@ cfg-at : (cfg : m.Settings) (p : Pair) (w : World) → Shows cfg p w → 0 < cfg
 cfg-at cfg p w s = let k = p .left .end .settings .some in omega (arith, k, ap (λ z. z .room) (s .cfg-left))
 
 -- what the code holds was given within its limit
-given-small : (cfg : m.Settings) (x : Table) (cs : List Conn) → Lodges cfg x cs → (t : ℕ) (c : Conn) → byTag t cs ≡ There c → length (c .given) ≤ most
-given-small cfg x cs h t c e = go (finds (Tag t) x) (subst (Agree (InLane cfg (x .conns)) (finds (Tag t) x)) e (by-tag cfg x h t))
+given-small : (cfg : m.Settings) (mem : ℕ → Rings) (x : Table) (cs : List Conn) → Lodges cfg mem x cs → (t : ℕ) (c : Conn) → byTag t cs ≡ There c → length (c .given) ≤ most
+given-small cfg mem x cs h t c e = go (finds (Tag t) x) (subst (Agree (InLane cfg mem (x .conns)) (finds (Tag t) x)) e (by-tag cfg mem x h t))
   where
-    go : (o : Option ℕ) → Agree (InLane cfg (x .conns)) o (There c) → length (c .given) ≤ most
+    go : (o : Option ℕ) → Agree (InLane cfg mem (x .conns)) o (There c) → length (c .given) ≤ most
     go None a = absurd a
     go (Some l) a = omega (arith, a .waits .small, ap (λ d. length (d .given)) (a .is))
 
@@ -95,7 +95,7 @@ module _ (p q : Pair) (o : Who) (t n : ℕ) (vc vd : View) (see-c : Seen p o t (
     }
 
     enough : left c d ≤ n
-    enough = omega (arith, left-most c d, length-drop (length (c .got)) (d .given), rounds, gd, rc, given-small _ (partyOf (other o) p .end .table) _ (plays-at cfg p (world cfg es) s (other o) .stands .table) (vc .peer) d fd)
+    enough = omega (arith, left-most c d, length-drop (length (c .got)) (d .given), rounds, gd, rc, given-small _ _ (partyOf (other o) p .end .table) _ (plays-at cfg p (world cfg es) s (other o) .stands .table) (vc .peer) d fd)
 
     brings : (length (made cfg es (drive cfg es n o t (vc .peer) capacity)) ≤ 6 * missing c d + 12) × ((x : Conn) → At o (world cfg (drivenTo cfg es n o t (vc .peer))) x → x .mine ≡ c .mine → HasAll x d)
     brings = subst (λ z. (length (made cfg es (drive cfg es n o t z capacity)) ≤ 6 * missing c d + 12) × ((x : Conn) → At o (world cfg (drivenTo cfg es n o t z)) x → x .mine ≡ c .mine → HasAll x d)) mine-d
