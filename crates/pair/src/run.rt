@@ -95,6 +95,21 @@ fn act(
     make(rt, pair, command)
 }
 
+/// Makes the moves that bring over all that a connection has still to get, and prints how many and what went out.
+fn carry(rt: &LibcRuntime, pair: &mut Simulation<'_>, side: Side, tag: u64) -> Result<(), AnyError> {
+    let left = pair.sent_to(Side::Left).len();
+    let right = pair.sent_to(Side::Right).len();
+    match pair.carry(side, tag) {
+        Ok(n) => println!(rt, "  all is there after {n} moves")?,
+        Err(fault) => {
+            let n = number(fault);
+            println!(rt, "  refused {n}")?
+        }
+    }
+    print_packets(rt, "L", pair.sent_to(Side::Left), left)?;
+    print_packets(rt, "R", pair.sent_to(Side::Right), right)
+}
+
 /// Does what a line says.
 fn obey(rt: &LibcRuntime, pair: &mut Simulation<'_>, line: Line<'_>) -> Result<(), AnyError> {
     match line {
@@ -106,11 +121,11 @@ fn obey(rt: &LibcRuntime, pair: &mut Simulation<'_>, line: Line<'_>) -> Result<(
             let at = which.saturating_sub(1) as usize;
             make(rt, pair, Command::Deliver(side_of(to), at, tag))
         }
+        Line::Drive { side, tag } => carry(rt, pair, side_of(side), tag),
         Line::Blank => Ok(()),
         Line::Act { side: None, .. }
         | Line::Settings { .. }
         | Line::Damage { .. }
-        | Line::Drive { .. }
         | Line::Tick { .. } => {
             println!(rt, "  refused 1")?;
             Ok(())
