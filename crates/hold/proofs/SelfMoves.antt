@@ -179,7 +179,7 @@ reach-more cfg n es ms gs m fs e r = record {
     all : makes cfg (world cfg (made cfg es ms ++ es)) m ++ made cfg es ms ≡ fs ++ made cfg es ms
     all = ap (λ z. z ++ made cfg es ms) (ap (λ z. makes cfg (world cfg z) m) (r .is) ∙ e)
 
-made-app : (cfg : Settings) (es : List Ev) (ms ns : List Self) → made cfg es (ns ++ ms) ≡ made cfg (made cfg es ms ++ es) ns ++ made cfg es ms
+pub made-app : (cfg : Settings) (es : List Ev) (ms ns : List Self) → made cfg es (ns ++ ms) ≡ made cfg (made cfg es ms ++ es) ns ++ made cfg es ms
 unfolding made
 made-app cfg es ms [] = refl
 made-app cfg es ms (n ∷ ns) = go (made cfg es ms) (made cfg (made cfg es ms ++ es) ns) (made cfg es (ns ++ ms)) (made-app cfg es ms ns)

@@ -18,7 +18,7 @@ pub struct Party<'m> {
 pub enum Fault {
     /// The end refused.
     Refused(Refusal),
-    /// There is no such packet, or a tag was drawn before.
+    /// There is no such packet, a tag was drawn before, or two connections are not one.
     Unfit,
     /// There is no memory to write it down.
     Memory,

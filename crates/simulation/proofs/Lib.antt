@@ -4,3 +4,6 @@ pub mod OneSide
 pub mod BothSides
 pub mod Kept
 pub mod Obeying
+pub mod Moving
+pub mod RoundsMade
+pub mod Brings

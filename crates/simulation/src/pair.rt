@@ -1,3 +1,5 @@
+ghost use mathlib.Core.Path.{_≡_};
+ghost use Rattle.simulation.specs.Sides.{otherSide};
 use packet::packet::Packet;
 use party::Party;
 
@@ -5,6 +7,17 @@ use party::Party;
 pub enum Side {
     Left,
     Right,
+}
+
+impl Side {
+    pub fn other(self) -> Side
+        ensures { λ r. ⌜ r ≡ otherSide self ⌝ }
+    {
+        match self {
+            Side::Left => Side::Right,
+            Side::Right => Side::Left,
+        }
+    }
 }
 
 /// Two parties, and all that was ever sent and all tags that were ever drawn, the oldest first.

@@ -1,11 +1,14 @@
 ghost use Rattle.ledger.specs.Books.{accounts};
 ghost use Rattle.ledger.specs.Sentence.{Sentence};
+ghost use mathlib.Core.Path.{_≡_};
+ghost use Rattle.simulation.specs.Carry.{BroughtBy};
 ghost use Rattle.simulation.specs.Events.{events};
-ghost use Rattle.simulation.specs.Shows.{Does};
+ghost use Rattle.simulation.specs.Shows.{Does, whoOf};
 use crate::Simulation;
 use crate::command::Answer;
 use crate::command::Command;
 use crate::pair::Pair;
+use crate::pair::Side;
 use endpoint::LANES;
 use endpoint::RINGS;
 use lent::bits::WORDS;
@@ -53,5 +56,22 @@ impl<'m> Simulation<'m> {
         ensures sentence { λ _. ⌜ Sentence (accounts (now (self .exit) .pair .left .book)) (accounts (now (self .exit) .pair .right .book)) ⌝ }
     {
         self.pair.obey(command)
+    }
+
+    /// Makes the moves which bring over all that was given to the connection of a side with a tag, while it and the other's live:
+    /// what is due of those that owe something or open, answers, hearings and takings, nothing else. The answer is how many it
+    /// took; afterwards all came, with the end if there is one. So no state is a dead end.
+    pub fn carry(&mut self, side: Side, tag: u64) -> Result<u64, Fault>
+        ensures brought { λ r. ⌜ BroughtBy (now (self .entry) .pair) (now (self .exit) .pair) (whoOf side) tag r ⌝ }
+        ensures sentence { λ _. ⌜ Sentence (accounts (now (self .exit) .pair .left .book)) (accounts (now (self .exit) .pair .right .book)) ⌝ }
+    {
+        self.pair.carry(side, tag)
+    }
+
+    /// The two parties and all that was sent, to look at.
+    pub fn pair(&self) -> &Pair<'m>
+        ensures { λ r. ⌜ now r ≡ now (self .entry) .pair ⌝ }
+    {
+        &self.pair
     }
 }
