@@ -18,7 +18,7 @@ use std::error::AnyError;
 use text::data::decode;
 
 /// Bytes for which a connection has room, and most bytes of one text, where the script does not say.
-const ROOM: u64 = 64;
+const ROOM: u64 = CAPACITY as u64;
 
 const SIZE: u64 = 1024;
 

@@ -69,7 +69,7 @@ impl<'m> Simulation<'m> {
     }
 
     /// The two parties and all that was sent, to look at.
-    pub fn pair(&self) -> &Pair
+    pub fn pair(&self) -> &Pair<'m>
         ensures { λ r. ⌜ now r ≡ now (self .entry) .pair ⌝ }
     {
         &self.pair
