@@ -96,7 +96,12 @@ fn act(
 }
 
 /// Makes the moves that bring over all that a connection has still to get, and prints how many and what went out.
-fn carry(rt: &LibcRuntime, pair: &mut Simulation<'_>, side: Side, tag: u64) -> Result<(), AnyError> {
+fn carry(
+    rt: &LibcRuntime,
+    pair: &mut Simulation<'_>,
+    side: Side,
+    tag: u64,
+) -> Result<(), AnyError> {
     let left = pair.sent_to(Side::Left).len();
     let right = pair.sent_to(Side::Right).len();
     match pair.carry(side, tag) {
