@@ -67,11 +67,4 @@ impl<'m> Simulation<'m> {
     {
         self.pair.carry(side, tag)
     }
-
-    /// The two parties and all that was sent, to look at.
-    pub fn pair(&self) -> &Pair<'m>
-        ensures { λ r. ⌜ now r ≡ now (self .entry) .pair ⌝ }
-    {
-        &self.pair
-    }
 }
