@@ -15,7 +15,7 @@ pub trait Keyword: Copy {
 /// The first of `words` that stands at the front of `line`, and what stands behind it; else the part of `line` from
 /// the first byte at which none of them goes on.
 pub fn choose<'a, K: Keyword>(words: &[K], line: &'a [u8]) -> Result<(K, &'a [u8]), &'a [u8]>
-    ensures { seen result ≡ choose spelt words.now line.now }
+    ensures { seen result ≡ choose K.spelt words.now line.now }
 {
     let mut far = line;
     for word in words {

@@ -6,8 +6,8 @@ use Rattle.endpoint.specs.Stands.{cfg, lent}
 use Rattle.endpoint.proofs.Sayings.{mute, says_none, says_of, speaks}
 use Rattle.endpoint.proofs.Endpoint.answer.Goals as goal
 
-pub returns-in-default : goal.returns-in-default
-returns-in-default c = let x = c.args.self.now in λ o w s. says_none x o w s c.args.tag _ (λ (f : Found). says_if (cfg x) (upto_of f) (cfg x).size f) c.in-default.ensures.is refl
+pub returns-in_default : goal.returns-in_default
+returns-in_default c = let x = c.args.self.now in λ o w s. says_none x o w s c.args.tag _ (λ (f : Found). says_if (cfg x) (upto_of f) (cfg x).size f) c.in_default.ensures.is refl
 
 pub returns-then-not-speaks : goal.returns-then-not-speaks
 returns-then-not-speaks c = let x = c.args.self.now in λ o w s.

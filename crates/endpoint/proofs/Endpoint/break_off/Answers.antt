@@ -6,8 +6,8 @@ use Rattle.endpoint.proofs.Memory.{beside}
 use Rattle.endpoint.proofs.Ends.{after_out, ended, finding, numbered_none, numbered_some}
 use Rattle.endpoint.proofs.Endpoint.break_off.Goals as goal
 
-pub returns-in-default : goal.returns-in-default
-returns-in-default c = (numbered_none c.args.self.now c.args.tag break_number c.in-default.ensures.is, refl)
+pub returns-in_default : goal.returns-in_default
+returns-in_default c = (numbered_none c.args.self.now c.args.tag break_number c.in_default.ensures.is, refl)
 
 pub returns : goal.returns
 returns c = let x = c.args.self.now in let h = c.in-Some.ensures.is in (

@@ -7,8 +7,8 @@ use Rattle.endpoint.proofs.Memory.{beside}
 use Rattle.endpoint.proofs.Ends.{numbered_none, numbered_some, steps_some}
 use Rattle.endpoint.proofs.Endpoint.close.Goals as goal
 
-pub returns-in-default : goal.returns-in-default
-returns-in-default c = (numbered_none c.args.self.now c.args.tag close_number c.in-default.ensures.is, refl)
+pub returns-in_default : goal.returns-in_default
+returns-in_default c = (numbered_none c.args.self.now c.args.tag close_number c.in_default.ensures.is, refl)
 
 pub returns-then-c : goal.returns-then-c
 returns-then-c c =

@@ -4,11 +4,11 @@ use Rattle.endpoint.specs.Stands.{cfg, lent}
 use Rattle.endpoint.proofs.Sayings.{says_none, says_of}
 use Rattle.endpoint.proofs.Endpoint.due.Goals as goal
 
-pub returns-in-default : goal.returns-in-default
-returns-in-default c = let x = c.args.self.now in record { settings = refl; world = λ o w s. says_none x o w s c.args.tag _ (due_if (cfg x)) c.in-default.ensures.is refl }
+pub returns-in_default : goal.returns-in_default
+returns-in_default c = let x = c.args.self.now in record { settings = refl; world = λ o w s. says_none x o w s c.args.tag _ (due_if (cfg x)) c.in_default.ensures.is refl }
 
 pub returns : goal.returns
 returns c = let x = c.args.self.now in record {
   settings = refl;
-  world = λ o w s. says_of x o w s c.args.tag _ (due_if (cfg x)) c.in-Some.lane c.in-Some.ensures.is (c.due-now.ensures (lent x c.in-Some.lane).into (lent x c.in-Some.lane).bits);
+  world = λ o w s. says_of x o w s c.args.tag _ (due_if (cfg x)) c.in-Some.lane c.in-Some.ensures.is (c.due_now.ensures (lent x c.in-Some.lane).into (lent x c.in-Some.lane).bits);
 }

@@ -19,7 +19,7 @@ returns-in-Some c = let x = c.args.self.now in let h = c.in-Some.ensures.is in (
 )
 
 pub returns-in-Some-find : goal.returns-in-Some-find
-returns-in-Some-find c = let x = c.args.self.now in let no = c.in-default.ensures.is in let h = c.in-Some-find.ensures.is in let l = c.in-Some-find.lane in (
+returns-in-Some-find c = let x = c.args.self.now in let no = c.in_default.ensures.is in let h = c.in-Some-find.ensures.is in let l = c.in-Some-find.lane in (
   there_gone x c.args.tag l no h,
   c.remove-in-Some-find.ensures.lanes ∙ lane-gone x c.args.tag l no h,
   record {

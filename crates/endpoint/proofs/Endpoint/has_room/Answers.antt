@@ -4,4 +4,4 @@ use Rattle.endpoint.specs.Stands.{cfg, lent}
 use Rattle.endpoint.proofs.Endpoint.has_room.Goals as goal
 
 pub returns : goal.returns
-returns c = let x = c.args.self.now in record { is = c.has-room.ensures; full = λ f e s. all_full (cfg x) (lent x) x.table s.table (sym c.has-room.ensures ∙ f) }
+returns c = let x = c.args.self.now in record { is = c.has_room.ensures; full = λ f e s. all_full (cfg x) (lent x) x.table s.table (sym c.has_room.ensures ∙ f) }

@@ -14,18 +14,18 @@ returns-in-Some c = λ ts room. record {
 pub returns-then-not-self : goal.returns-then-not-self
 returns-then-not-self c = λ ts room. record {
   settings = refl;
-  world = λ o w s d. ask_deaf c.args.self.now o w s (packet_of c.args.p ts) c.args.tag c.in-default.ensures.is c.if-not-self.true;
+  world = λ o w s d. ask_deaf c.args.self.now o w s (packet_of c.args.p ts) c.args.tag c.in_default.ensures.is c.if-not-self.true;
 }
 
 pub returns-then-tag-eq0 : goal.returns-then-tag-eq0
 returns-then-tag-eq0 c = λ ts room. record {
   settings = refl;
-  world = λ o w s d. ask_zero c.args.self.now o w s (packet_of c.args.p ts) c.args.tag c.in-default.ensures.is c.if-tag-eq0.true;
+  world = λ o w s d. ask_zero c.args.self.now o w s (packet_of c.args.p ts) c.args.tag c.in_default.ensures.is c.if-tag-eq0.true;
 }
 
 pub returns : goal.returns
 returns c = λ ts room. let x = c.args.self.now in record {
   settings = refl;
-  world = λ o w s d. ask_new x o w s (packet_of c.args.p ts) c.args.tag c.in-default.ensures.is _ c.in-Some-add.lane (beside_bits c.in-Some-add.lane x _ refl refl c.ready.new.bits refl refl) c.new.result c.in-Some-add.ensures
+  world = λ o w s d. ask_new x o w s (packet_of c.args.p ts) c.args.tag c.in_default.ensures.is _ c.in-Some-add.lane (beside_bits c.in-Some-add.lane x _ refl refl c.ready.new.bits refl refl) c.new.result c.in-Some-add.ensures
       c.if-not-self.false d c.if-tag-eq0.false (λ z. fresh_in c.in-Some-add.lane c.in-Some-add.ensures.1 x z c.ready.new.bits c.ready.ensures) (λ mem. c.new.ensures (cfg x) mem x.settings.held) (packet c.bare-2.result) c.bare-2.ensures;
 }

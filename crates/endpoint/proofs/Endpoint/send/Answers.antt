@@ -5,9 +5,9 @@ use Rattle.endpoint.specs.Stands.{cfg, lent}
 use Rattle.endpoint.proofs.Sayings.{mute, says_none, says_of, says_so, speaks, upto_is}
 use Rattle.endpoint.proofs.Endpoint.send.Goals as goal
 
-pub returns-in-default : goal.returns-in-default
-returns-in-default c = let x = c.args.self.now in record {
-  may = λ o w s a b. says_none x o w s c.args.tag _ (says_if (cfg x) c.args.place c.args.most) c.in-default.ensures.is refl;
+pub returns-in_default : goal.returns-in_default
+returns-in_default c = let x = c.args.self.now in record {
+  may = λ o w s a b. says_none x o w s c.args.tag _ (says_if (cfg x) c.args.place c.args.most) c.in_default.ensures.is refl;
   other = λ e s n. refl;
 }
 

@@ -15,7 +15,7 @@ returns-in-Some c = let x = c.args.self.now in let h = c.in-Some.ensures.is in r
 }
 
 pub returns-in-Some-find : goal.returns-in-Some-find
-returns-in-Some-find c = let x = c.args.self.now in let no = c.in-default.ensures.is in let h = c.in-Some-find.ensures.is in let r = c.take-n-in-Some-find in record {
+returns-in-Some-find c = let x = c.args.self.now in let no = c.in_default.ensures.is in let h = c.in-Some-find.ensures.is in let r = c.take-n-in-Some-find in record {
   steps = takes-steps x c.args.tag c.in-Some-find.lane no h _ (beside c.in-Some-find.lane x _ refl refl refl refl) r.result.0 refl refl c.args.out.now r.new.out r.result.1 (r.ensures.drained (cfg x) (lent x c.in-Some-find.lane).out (lent x c.in-Some-find.lane).bits);
   lives = λ e s d q. let g : There d ≡ NotThere = sym q ∙ missing x e s c.args.tag no in let z : ◌≡◌ {A = ℕ} 0 1 = cc in absurd (omega arith);
   gone = λ e s q. takes-left x c.args.tag c.in-Some-find.lane no h _ (beside c.in-Some-find.lane x _ refl refl refl refl) r.result.0 refl refl c.args.out.now r.new.out r.result.1 (r.ensures.drained (cfg x) (lent x c.in-Some-find.lane).out (lent x c.in-Some-find.lane).bits) e s;

@@ -5,28 +5,24 @@ use Rattle.lanes.specs.Used.{used, without}
 use Rattle.lanes.proofs.Orders.{front_less, shift_all, shift_more, turned_apart, turned_low, without_out}
 use Rattle.lanes.proofs.Lanes.remove.Goals as goal
 
-pub returns-in-default : goal.returns-in-default
-returns-in-default c = sym (without_out c.args.lane (used c.args.self.now) c.in-default.ensures)
+pub returns-in_default : goal.returns-in_default
+returns-in_default c = sym (without_out c.args.lane (used c.args.self.now) c.in_default.ensures)
 
 pub loop-k-preserved : goal.loop-k-preserved
 loop-k-preserved c = let x = c.args.self.now in
     shift_more x.order c.loop-k.order c.in-Some.i c.loop-k.k (omega arith) (omega (arith, x.sized, x.few)) c.loop-k.invariant
 
-pub invariant-of-self : goal.invariant-of-self
-invariant-of-self c = let x = c.args.self.now in
+pub invariant_of-self : goal.invariant_of-self
+invariant_of-self c = let x = c.args.self.now in
     let p = c.in-Some.ensures.0 in
     let lt : x.count - 1 < length x.order = omega (arith, x.sized, x.few) in
     let le : c.in-Some.i ≤ x.count - 1 = omega arith in
-    let s = shift_all x.order c.loop-k.order c.in-Some.i c.loop-k.k (x.count - 1) c.loop-k-test.false (c.loop-k.auto.k-end le) c.loop-k.invariant in (
-      omega (arith, x.few),
-      (
-        length-set c.loop-k.order (x.count - 1) _ ∙ s.size ∙ x.sized,
-        (
-          turned_low x.order c.loop-k.order c.in-Some.i (x.count - 1) le lt s x.low,
-          (turned_apart x.order c.loop-k.order c.in-Some.i (x.count - 1) le lt s (omega (arith, x.few)) x.apart, tt),
-        ),
-      ),
-    )
+    let s = shift_all x.order c.loop-k.order c.in-Some.i c.loop-k.k (x.count - 1) c.loop-k-test.false (c.loop-k.auto.k-end le) c.loop-k.invariant in record {
+      few = omega (arith, x.few);
+      sized = length-set c.loop-k.order (x.count - 1) _ ∙ s.size ∙ x.sized;
+      low = turned_low x.order c.loop-k.order c.in-Some.i (x.count - 1) le lt s x.low;
+      apart = turned_apart x.order c.loop-k.order c.in-Some.i (x.count - 1) le lt s (omega (arith, x.few)) x.apart;
+    }
 
 pub returns : goal.returns
 returns c = let x = c.args.self.now in

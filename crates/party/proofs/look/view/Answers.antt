@@ -5,8 +5,8 @@ use Rattle.party.proofs.look.view.Goals as goal
 pub returns : goal.returns
 returns c cfg mem d s =
     let e = view_is cfg mem c.args.c.now d s in
-    let a = c.is-asked.ensures in
+    let a = c.is_asked.ensures in
     let b = c.speaks.ensures in
-    let h = c.is-said.ensures in
+    let h = c.is_said.ensures in
     let o = c.owes.ensures cfg mem d s in
     cc

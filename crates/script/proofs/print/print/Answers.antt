@@ -6,5 +6,5 @@ use Rattle.script.proofs.print.print.Goals as goal
 
 pub returns : goal.returns
 returns c =
-    let e : vec_items c.push-line.new.out ≡ shown c.args.line = search rules in
+    let e : vec_items c.push_line.new.out ≡ shown c.args.line = search rules in
     record { bytes = e; back = λ h. ap parse e ∙ read_back c.args.line h }

@@ -2,8 +2,8 @@ use Rattle.simulation.specs.Shows.{who_of}
 use Rattle.simulation.proofs.Kept.{brought_by, carried_goes, keeps_sentence, runs_go}
 use Rattle.simulation.proofs.Simulation.carry.Goals as goal
 
-pub invariant-of-self : goal.invariant-of-self
-invariant-of-self c = (runs_go c.args.self.now.pair c.carry.new.self (carried_goes _ _ (who_of c.args.side) c.args.tag c.carry.result c.carry.ensures) c.args.self.now.runs, tt)
+pub invariant_of-self : goal.invariant_of-self
+invariant_of-self c = (runs_go c.args.self.now.pair c.carry.new.self (carried_goes _ _ (who_of c.args.side) c.args.tag c.carry.result c.carry.ensures) c.args.self.now.runs, tt)
 
 pub returns : goal.returns
 returns c = record {

@@ -2,8 +2,8 @@ use Rattle.packet.specs.Agreed.{cfg_of}
 use Rattle.simulation.proofs.Kept.{keeps_sentence, runs_new}
 use Rattle.simulation.proofs.Simulation.new.Goals as goal
 
-pub invariant-of-result : goal.invariant-of-result
-invariant-of-result c = (runs_new (cfg_of c.args.settings) c.new.result c.new.ensures, tt)
+pub invariant_of-result : goal.invariant_of-result
+invariant_of-result c = (runs_new (cfg_of c.args.settings) c.new.result c.new.ensures, tt)
 
 pub returns : goal.returns
 returns c = record { sentence = keeps_sentence c.new.result (runs_new (cfg_of c.args.settings) c.new.result c.new.ensures) }

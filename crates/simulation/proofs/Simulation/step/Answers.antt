@@ -2,8 +2,8 @@ use Rattle.simulation.specs.Events.{events}
 use Rattle.simulation.proofs.Kept.{keeps_sentence, runs_on}
 use Rattle.simulation.proofs.Simulation.step.Goals as goal
 
-pub invariant-of-self : goal.invariant-of-self
-invariant-of-self c = (runs_on c.args.self.now.pair c.obey.new.self (events c.args.self.now.pair c.args.command c.obey.result) c.obey.ensures c.args.self.now.runs, tt)
+pub invariant_of-self : goal.invariant_of-self
+invariant_of-self c = (runs_on c.args.self.now.pair c.obey.new.self (events c.args.self.now.pair c.args.command c.obey.result) c.obey.ensures c.args.self.now.runs, tt)
 
 pub returns : goal.returns
 returns c = record {

@@ -6,5 +6,5 @@ use Rattle.wire.proofs.format.write.Goals as goal
 
 pub returns : goal.returns
 returns c =
-    let w : Written (packet_of c.args.head c.args.text.now) c.args.out.now c.write-all.new.out (Some c.write-all.result) = search rules in
-    record { written = w; back = reads_back (packet_of c.args.head c.args.text.now) _ _ _ (record { from = c.write-all.ensures.tags.0; to = c.write-all.ensures.tags.1; text = λ i. omega (arith, c.type-inv.text i) }) w }
+    let w : Written (packet_of c.args.head c.args.text.now) c.args.out.now c.write_all.new.out (Some c.write_all.result) = search rules in
+    record { written = w; back = reads_back (packet_of c.args.head c.args.text.now) _ _ _ (record { from = c.write_all.ensures.tags.0; to = c.write_all.ensures.tags.1; text = λ i. omega (arith, c.type_inv.text i) }) w }

@@ -6,7 +6,7 @@ use Rattle.wire.proofs.format.write_all.Goals as goal
 pub returns : goal.returns
 returns c = record {
   count = refl;
-  bytes = three (packet_of c.args.head c.args.text.now) c.write-header.new.out _ _ _ c.args.out.now _
-      c.write-header.ensures.bytes c.put.ensures c.crc32c.ensures c.to-be-bytes-check.ensures c.put-2.ensures;
-  tags = c.write-header.ensures.tags;
+  bytes = three (packet_of c.args.head c.args.text.now) c.write_header.new.out _ _ _ c.args.out.now _
+      c.write_header.ensures.bytes c.put.ensures c.crc32c.ensures c.to_be_bytes-check.ensures c.put-2.ensures;
+  tags = c.write_header.ensures.tags;
 }

@@ -5,4 +5,4 @@ use Rattle.connection.proofs.stream.Stream.heard.Goals as goal
 
 pub returns : goal.returns
 returns c = flows_heard (cfg_of c.args.settings) c.args.self (packet_of c.args.p c.args.text.now) c.max.result c.said-self.result c.confirm-self.result c.args.ring.now c.args.bits.now _ _
-    c.max.ensures c.said-self.ensures c.confirm-self.ensures.upto c.confirm-self.ensures.waits c.keep-all.ensures
+    c.max.ensures c.said-self.ensures c.confirm-self.ensures.upto c.confirm-self.ensures.waits c.keep_all.ensures

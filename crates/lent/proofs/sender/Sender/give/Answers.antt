@@ -4,7 +4,7 @@ use Rattle.lent.proofs.sender.Sender.give.Goals as goal
 
 pub returns : goal.returns
 returns c = record {
-  waits = (λ g w. send_more c.args.self.given c.args.self.upto c.min-n.result c.saturating-sub-skip.result c.args.ring.now c.put.new.ring c.args.bytes.now _ g (omega arith) (omega arith) c.saturating-sub-skip.ensures refl c.put.ensures w);
+  waits = (λ g w. send_more c.args.self.given c.args.self.upto c.min-n.result c.saturating_sub-skip.result c.args.ring.now c.put.new.ring c.args.bytes.now _ g (omega arith) (omega arith) c.saturating_sub-skip.ensures refl c.put.ensures w);
   count = omega arith;
   upto = refl;
 }

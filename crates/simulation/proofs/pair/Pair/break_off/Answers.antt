@@ -4,7 +4,7 @@ use Rattle.simulation.proofs.BothSides.{left_does, right_does}
 use Rattle.simulation.proofs.pair.Pair.break_off.Goals as goal
 
 pub returns-in-Left : goal.returns-in-Left
-returns-in-Left c = left_does c.args.self.now _ _ (who_of c.args.side) (ap who_of c.in-Left.is) (c.break-off.ensures (vec_items c.args.self.now.to_left) (vec_items c.args.self.now.drawn)) refl refl
+returns-in-Left c = left_does c.args.self.now _ _ (who_of c.args.side) (ap who_of c.in-Left.is) (c.break_off.ensures (vec_items c.args.self.now.to_left) (vec_items c.args.self.now.drawn)) refl refl
 
 pub returns-in-Right : goal.returns-in-Right
-returns-in-Right c = right_does c.args.self.now _ _ (who_of c.args.side) (ap who_of c.in-Right.is) (c.break-off-in-Right.ensures (vec_items c.args.self.now.to_right) (vec_items c.args.self.now.drawn)) refl refl
+returns-in-Right c = right_does c.args.self.now _ _ (who_of c.args.side) (ap who_of c.in-Right.is) (c.break_off-in-Right.ensures (vec_items c.args.self.now.to_right) (vec_items c.args.self.now.drawn)) refl refl

@@ -8,7 +8,7 @@ loop-i-init c = up_first c.args.self.now c.args.self.now c.args.most (who_of c.a
 
 pub loop-i-preserved : goal.loop-i-preserved
 loop-i-preserved c = up_more c.args.self.now c.loop-i.self c.args.most (who_of c.args.side) c.args.tag c.args.peer c.round.new.self (c.args.most - c.loop-i.-i) _ c.loop-i.moves c.in-Ok.n _
-    (omega (arith, c.loop-i-test.true)) c.loop-i.invariant (seen_other c.loop-i.self _ (who_of c.args.side) (who_of c.other.result) c.args.peer (who_other c.args.side c.other.result c.other.ensures) c.if-not-speaks.ensures) c.in-Ok.ensures.made (omega (arith, c.saturating-add-moves.ensures))
+    (omega (arith, c.loop-i-test.true)) c.loop-i.invariant (seen_other c.loop-i.self _ (who_of c.args.side) (who_of c.other.result) c.args.peer (who_other c.args.side c.other.result c.other.ensures) c.if-not-speaks.ensures) c.in-Ok.ensures.made (omega (arith, c.saturating_add-moves.ensures))
 
 pub returns-then-not-speaks : goal.returns-then-not-speaks
 returns-then-not-speaks c = up_done c.args.self.now c.loop-i.self c.args.most (who_of c.args.side) c.args.tag c.args.peer (c.args.most - c.loop-i.-i) c.loop-i.moves c.loop-i.invariant (seen_other c.loop-i.self _ (who_of c.args.side) (who_of c.other.result) c.args.peer (who_other c.args.side c.other.result c.other.ensures) c.if-not-speaks.ensures)
