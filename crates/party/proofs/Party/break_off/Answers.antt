@@ -4,4 +4,4 @@ use Rattle.party.proofs.Parties.{broken_acts}
 use Rattle.party.proofs.Party.break_off.Goals as goal
 
 pub returns-in-Ok : goal.returns-in-Ok
-returns-in-Ok c = broken_acts c.args.self.now _ c.break_off.new.self _ c.look_around.ensures.end c.look_around.ensures.1 c.args.tag (sent c.in-Ok.p) c.in-Ok.ensures.1 refl
+returns-in-Ok c = broken_acts c.args.self.now _ c.break_off.new.self _ c.look_around.ensures.end c.look_around.ensures.seen c.args.tag (sent c.in-Ok.p) c.in-Ok.ensures.1 refl

@@ -3,4 +3,4 @@ use Rattle.party.proofs.Parties.{closed_acts}
 use Rattle.party.proofs.Party.close.Goals as goal
 
 pub returns-in-Ok : goal.returns-in-Ok
-returns-in-Ok c = closed_acts c.args.self.now _ c.close.new.self _ c.look_around.ensures.end c.look_around.ensures.1 c.args.tag c.in-Ok.ensures.1 refl
+returns-in-Ok c = closed_acts c.args.self.now _ c.close.new.self _ c.look_around.ensures.end c.look_around.ensures.seen c.args.tag c.in-Ok.ensures.1 refl

@@ -10,4 +10,4 @@ returns c =
     let e : read_of c.read_fields.result ≡ decode c.args.bytes.now =
     whole c.in-Some.kind c.args.bytes.now _ c.in-Some.ensures c.if-not-length_fits.ensures
     (sym c.read32.ensures ∙ c.if-read32-crc32c.false ∙ c.crc32c.ensures) c.read_fields.ensures in
-    record { read = e; written = was_written c.args.bytes.now _ (λ i. omega (arith, c.ok.bytes i)) e }
+    record { read = e; written = was_written c.args.bytes.now _ (λ i. omega (arith, c.type_inv.bytes i)) e }
