@@ -7,5 +7,5 @@ use Rattle.simulation.proofs.halves.break_off.Goals as goal
 pub returns-in-Ok-break_off : goal.returns-in-Ok-break_off
 returns-in-Ok-break_off c inn ts =
     let x = c.args.party.now.end in
-    half_moves c.args.party.now c.break_off.new.self inn (vec_items c.args.out.now) (vec_items c.post.new.net) _ _ _ (posted (vec_items c.args.out.now) (vec_items c.reserve.new.self) (vec_items c.post.new.net) _ c.reserve.ensures.items (c.post.ensures (c.in-Ok.ensures.ok refl))) ts c.in-Ok-break_off.ensures
+    half_moves c.args.party.now c.break_off.new.self inn (vec_items c.args.out.now) (vec_items c.post.new.net) _ _ _ (posted (vec_items c.args.out.now) (vec_items c.reserve.new.self) (vec_items c.post.new.net) _ c.reserve.ensures.items (c.post.ensures c.in-Ok.ensures.ok)) ts c.in-Ok-break_off.ensures
     (λ o es. stepped (E.cfg x) (Breaks o c.args.tag) es) (λ o w. put_drawn o _ _ _ w)

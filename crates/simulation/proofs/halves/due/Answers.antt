@@ -7,5 +7,5 @@ use Rattle.simulation.proofs.halves.due.Goals as goal
 pub returns : goal.returns
 returns c inn ts =
     let x = c.args.party.now.end in
-    half_moves c.args.party.now c.args.party.now inn (vec_items c.args.out.now) (vec_items c.post.new.net) _ _ _ (posted (vec_items c.args.out.now) (vec_items c.reserve.new.self) (vec_items c.post.new.net) _ c.reserve.ensures.items (c.post.ensures (c.in-Ok.ensures.ok refl))) ts c.due.ensures
+    half_moves c.args.party.now c.args.party.now inn (vec_items c.args.out.now) (vec_items c.post.new.net) _ _ _ (posted (vec_items c.args.out.now) (vec_items c.reserve.new.self) (vec_items c.post.new.net) _ c.reserve.ensures.items (c.post.ensures c.in-Ok.ensures.ok)) ts c.due.ensures
     (λ o es. stepped (E.cfg x) (Due o c.args.tag) es) (λ o w. put_drawn o _ _ _ w)

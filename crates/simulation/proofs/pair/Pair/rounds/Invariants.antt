@@ -4,4 +4,4 @@ use Rattle.simulation.specs.Shows.{who_of}
 use Rattle.simulation.proofs.pair.Pair.rounds.Given as goal
 
 abbrev pub invariant-loop-i : goal.invariant-loop-i
-invariant-loop-i l = UpTo l.initial.self l.self l.most (l.most - l.-i) (who_of l.side) l.tag l.peer l.moves
+invariant-loop-i l = UpTo l.initial.self l.self l.most (l.most - l._i) (who_of l.side) l.tag l.peer l.moves
