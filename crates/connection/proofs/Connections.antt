@@ -1,5 +1,5 @@
 -- Steps of a connection that are not its stream's alone.
-use Rattle.std.proofs.Common.{◌≡◌, ℕ, ◌-◌, min, true, not, List, length, ap, ◌∙◌, subst}
+use Rattle.std.proofs.Common.{◌≡◌, ℕ, ◌-◌, min, true, List, length, ap, ◌∙◌, subst}
 use Rattle.hold.specs.Packet as m
 use Rattle.hold.specs.Conn.{Conn, open_with}
 use Rattle.lent.specs.Rings.{Holds}

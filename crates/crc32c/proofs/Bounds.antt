@@ -1,5 +1,5 @@
 -- The register has 32 bits.
-use Rattle.std.proofs.Common.{ℕ, zero, suc, ◌+◌, ◌*◌, ◌/◌, ◌%◌, ◌^◌, ◌<◌, List, [], ◌∷◌, ◌++◌, arith}
+use Rattle.std.proofs.Common.{ℕ, zero, suc, ◌*◌, ◌/◌, ◌%◌, ◌^◌, ◌<◌, List, [], ◌∷◌, ◌++◌, arith}
 use lib.Bits.{bit_xor, xor_lt}
 use Rattle.crc32c.specs.Crc.{Bytes, generator, bit_step, eight_steps, byte_step, register_after, crc_of}
 

@@ -1,5 +1,5 @@
 -- The register as what is left of one number, the bits of all bytes, by as many steps.
-use Rattle.std.proofs.Common.{◌≡◌, ℕ, zero, suc, ◌+◌, ◌-◌, ◌*◌, ◌/◌, ◌%◌, ◌^◌, ◌<◌, List, [], ◌∷◌, length, sym, refl, ap, ◌∙◌, mul_assoc, mul-pos, pow-suc, arith, pow_pos}
+use Rattle.std.proofs.Common.{◌≡◌, ℕ, zero, suc, ◌+◌, ◌*◌, ◌/◌, ◌%◌, ◌^◌, ◌<◌, List, [], ◌∷◌, length, sym, refl, ap, ◌∙◌, mul_assoc, mul-pos, pow-suc, arith, pow_pos}
 use lib.Bits.{bit_xor, xor_assoc, xor_comm, xor_zero_r, xor_zero_l, xor_shifted, xor_self, xor_lt}
 use Rattle.crc32c.specs.Crc.{Bytes, generator, bit_step, eight_steps, byte_step, register_after, crc_of}
 use Rattle.crc32c.specs.Distance.{number_of, OneRun}

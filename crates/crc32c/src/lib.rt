@@ -1,4 +1,6 @@
 //! CRC-32C (Castagnoli), the check of iSCSI and SCTP, by a table of 256 numbers.
+#![tactic(auto)]
+
 ghost use Rattle.std.specs.Prelude.{◌≡◌, ℕ, ◌+◌, ◌≤◌, length, drop};
 ghost use Rattle.crc32c.specs.Crc.{byte_step, crc_of, eight_steps, register_after};
 

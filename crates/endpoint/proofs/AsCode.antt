@@ -1,16 +1,16 @@
 -- This end is a code in the model's sense.
-use Rattle.std.proofs.Common.{◌≡◌, ℕ, ◌+◌, ◌-◌, ◌^◌, ◌<◌, ◌≤◌, min, Bool, true, false, cond, not, ◌&&◌, ◌||◌, eqb, ltb, leb, ◌⊎◌, List, [], ◌∷◌, ◌++◌, length, is_some, Some, None, Ok, Err, Option, Result, sym, refl, ap, ◌∙◌, subst, inl, inr, ⊎_elim, arith}
+use Rattle.std.proofs.Common.{◌≡◌, ℕ, ◌+◌, ◌^◌, ◌<◌, ◌≤◌, min, Bool, true, false, cond, not, ◌&&◌, ◌||◌, eqb, ltb, leb, List, [], ◌++◌, length, is_some, Some, None, Ok, Err, Option, Result, sym, refl, ap, ◌∙◌, subst, ⊎_elim, arith}
 use Rattle.std.proofs.lemmas.Bool.{and_parts, and_from, cases_Bool, cond-true, cond-false, le-leb, leb-true, lt-ltb, ltb-true, eq-eqb}
 use Rattle.std.proofs.lemmas.Bool.Decides.{nat_tests}
-use Rattle.hold.specs.Code.{Code, SameEnd, all_below, done_by, heard_by, has_bytes, is_ask, is_there, is_call, living, readable, same_bool, send_fits, sent_by, tag_of, takes_place}
+use Rattle.hold.specs.Code.{Code, SameEnd, all_below, done_by, heard_by, is_ask, is_there, is_call, living, readable, same_bool, send_fits, tag_of, takes_place}
 use Rattle.hold.specs.Conn.{Conn, Asked, new}
 use Rattle.hold.specs.Packet as m
 use Rattle.hold.specs.Promise.{tags}
-use Rattle.hold.specs.World.{Breaks, Closes, Due, End, Ev, Forgets, Found, Gives, Hears, Listens, NotThere, Opens, Sends, Takes, There, Who, World, added, by_tag, by_theirs, coming_to, end, is_in, on_kind, other}
+use Rattle.hold.specs.World.{Breaks, Closes, Due, End, Ev, Forgets, Found, Gives, Hears, Listens, NotThere, Opens, Sends, Takes, There, Who, World, added, by_tag, coming_to, end, is_in, on_kind, other}
 use Rattle.hold.proofs.Bricks.{false_true}
 use Rattle.hold.proofs.Ideal.{does_if, done_if, firsts, hears-at, refuses_if, sent_if}
 use Rattle.packet.specs.Agreed.{cfg_of}
-use Rattle.packet.specs.Sizes.{capacity, text_size}
+use Rattle.packet.specs.Sizes.{text_size}
 use Rattle.packet.specs.declared.packet.Packet.{Packet}
 use Rattle.packet.specs.declared.settings.Settings.{Settings}
 use Rattle.lent.specs.Sending.{free, most}

@@ -1,13 +1,12 @@
 -- What an end takes and what it refuses, over ends of the model: with this it is a code in the model's sense.
-use Rattle.std.specs.Prelude.{◌≡◌, ℕ, ◌^◌, Bool, true, false, cond, not, ◌&&◌, List, [], ◌∷◌, length, Ok, Err, Option, Result, ◌==◌, nat_le, nat_lt}
+use Rattle.std.specs.Prelude.{◌≡◌, ℕ, ◌^◌, Bool, true, false, cond, not, ◌&&◌, List, [], length, Ok, Err, Option, Result, ◌==◌, nat_le, nat_lt}
 use Rattle.hold.specs.Code.{Code, SameEnd, all_below, done_by, heard_by, is_there, living, readable, send_fits, sent_by, takes_place}
-use Rattle.hold.specs.Conn.{Conn}
 use Rattle.hold.specs.Packet as m
 use Rattle.hold.specs.Promise.{tags}
 use Rattle.hold.specs.World.{Breaks, Closes, Due, End, Ev, Forgets, Found, Gives, Hears, Listens, NotThere, Opens, Sends, Takes, There, Who, by_tag, is_in}
 use Rattle.packet.specs.declared.packet.Packet.{Packet}
 use Rattle.lent.specs.Sending.{free}
-use Rattle.endpoint.specs.Calls.{Broken, Finished, Gave, Opened, Taken}
+use Rattle.endpoint.specs.Calls.{Broken, Finished, Gave, Opened}
 use Rattle.endpoint.specs.Hearing.{HeardAs}
 use Rattle.endpoint.specs.Stands.{Stands}
 use Rattle.endpoint.specs.declared.Endpoint.{Endpoint}

@@ -1,4 +1,6 @@
 //! One end of the transport: its connections, the calls of their users, and the packets that it hears and sends. It has no clock and no socket: whatever happens is a call, and what goes out is an answer.
+#![tactic(auto)]
+
 mod calls;
 mod hearing;
 mod inside;

@@ -1,11 +1,11 @@
 -- What is said stays below the room that is seen; only a due text may pass it, by one byte. Assumes nothing.
-use Rattle.std.proofs.Common.{◌≡◌, ℕ, zero, suc, ◌+◌, ◌-◌, ◌<◌, ◌≤◌, Bool, true, false, cond, not, ◌&&◌, ◌||◌, eqb, ltb, ◌⊎◌, List, [], ◌∷◌, length, take, drop, sym, refl, ap, ◌∙◌, subst, inl, inr, ⊎_elim, arith}
+use Rattle.std.proofs.Common.{◌≡◌, ℕ, zero, suc, ◌+◌, ◌-◌, ◌<◌, ◌≤◌, true, cond, not, ◌&&◌, ◌||◌, eqb, ltb, ◌⊎◌, List, [], ◌∷◌, length, take, drop, sym, refl, ap, ◌∙◌, subst, inl, inr, ⊎_elim, arith}
 use mathlib.Core.List.Memᴰ
 use mathlib.Core.List.{Memᴰ}
 use Rattle.std.proofs.lemmas.Bool.Decides.{nat_tests as ways}
 use Rattle.std.proofs.lemmas.Bool.{cases_Bool, cond_both}
 use Rattle.hold.specs.Packet.{Settings, Packet, Kind, Ask, Yes, Text, Bye, bare, larger, lower}
-use Rattle.hold.specs.Conn.{Conn, Phase, Asked, Half, Open, Gone, Last, NotSaid, new, in_phase, open_with, hears, says, due, ends}
+use Rattle.hold.specs.Conn.{Conn, Phase, Asked, Half, Open, Gone, new, in_phase, open_with, hears, says, due}
 use Rattle.hold.specs.World.{Who, L, R, End, World, Ev, Listens, Opens, Due, Gives, Closes, Takes, Sends, Breaks, Forgets, Hears, end, other, coming_to, put, changed, added, is_in, is_open, is_asked, by_tag, by_theirs, Found, NotThere, There, says_if, due_by, due_if, bye_if, on_ask, on_yes, on_text, on_bye, on_kind, hears_nth, step, world}
 use Rattle.hold.specs.Promise.{At}
 use Rattle.hold.specs.Extras.{Below, SaysBelow}

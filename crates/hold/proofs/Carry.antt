@@ -3,7 +3,7 @@ use Rattle.std.proofs.Common.{◌≡◌, ℕ, zero, suc, ◌+◌, ◌-◌, ◌<�
 use Rattle.std.proofs.lemmas.Bool.Decides.{nat_tests}
 use Rattle.std.proofs.lemmas.Bool.{cond_both, cond-true, and_from, eq-eqb, ltb-false}
 use Rattle.hold.specs.Packet.{Settings, Piece, has, larger, lower}
-use Rattle.hold.specs.Conn.{Conn, Open, Last, NotSaid, open_with, hears, due, due_text, keep, turn, said}
+use Rattle.hold.specs.Conn.{Conn, Last, NotSaid, open_with, hears, due, due_text, keep, turn, said}
 use Rattle.hold.specs.Live.{Heard}
 use Rattle.hold.proofs.Hear.{said_stays}
 

@@ -3,8 +3,8 @@ use Rattle.std.proofs.Common.{◌≡◌, ℕ, ◌≤◌, Bool, true, false, cond
 use mathlib.Core.List.{Memᴰ}
 use Rattle.std.proofs.lemmas.Bool.{and_parts, cond-true, cond-false, leb-true}
 use Rattle.hold.specs.Packet.{Settings, Packet, Kind, Ask, Yes, Text, Bye, bare}
-use Rattle.hold.specs.Conn.{Conn, Asked, Half, Gone, new, in_phase, open_with, gives, closes, takes, hears, says}
-use Rattle.hold.specs.World.{Who, L, R, End, World, Ev, start, Listens, Opens, Due, Gives, Closes, Takes, Sends, Breaks, Forgets, Hears, end, other, coming_to, put, changed, added, is_in, is_asked, on_ask, on_yes, on_text, on_bye, on_kind, step, Found, NotThere, There, by_tag, by_theirs, says_if, due_if, bye_if}
+use Rattle.hold.specs.Conn.{Conn, Asked, new, says}
+use Rattle.hold.specs.World.{Who, L, R, End, World, Ev, start, Listens, Opens, Due, Gives, Closes, Takes, Sends, Breaks, Forgets, Hears, end, other, coming_to, put, added, is_in, is_asked, on_ask, on_yes, on_text, on_bye, on_kind, step, Found, NotThere, There, by_tag}
 use Rattle.hold.specs.Code.{Code, Clocks, SameEnd, CodeCanBe, Turn, same_who, of_end, idle, forget_all, due_all, done_by, sent_by, asked_by, answered_by, told_by, broken_by, heard_by, send_fits}
 use Rattle.hold.specs.Promise.{tags}
 use Rattle.hold.proofs.Bricks.{false_true, true→T}

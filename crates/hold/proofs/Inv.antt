@@ -1,17 +1,17 @@
 -- What is true of every world that can come to be. Assumes nothing.
-use Rattle.std.proofs.Common.{◌≡◌, ℕ, true, false, eqb, ◌⊎◌, List, [], ◌∷◌, ◌++◌, sym, refl, ap, subst, inl, inr, ⊎_elim, arith}
+use Rattle.std.proofs.Common.{◌≡◌, ℕ, true, false, eqb, ◌⊎◌, List, [], ◌∷◌, ◌++◌, sym, refl, subst, inl, inr, ⊎_elim, arith}
 use mathlib.Core.List.Memᴰ
 use mathlib.Core.List.{Memᴰ}
 use Rattle.std.proofs.lemmas.Bool.{or_cases, or_left, or_right}
-use Rattle.hold.specs.Packet.{Settings, Packet, Ask, Yes, Text, Bye, bare}
-use Rattle.hold.specs.Conn.{Conn, Phase, Asked, Half, NotSaid, new}
+use Rattle.hold.specs.Packet.{Settings, Packet, Ask, Yes, Bye, bare}
+use Rattle.hold.specs.Conn.{Conn, Phase, Asked, NotSaid, new}
 use Rattle.hold.specs.World.{Who, L, R, End, World, Ev, start, end, other, coming_to, put, added, change, is_in, is_open, is_asked, world}
 use Rattle.hold.specs.Promise.{At, tags, apart}
 use Rattle.hold.specs.Rules.{Front, Move, Said, answers, asking, asks, bye, edits, half_new, is_half, listens, stays, tells, truthful, yes_of}
 use Rattle.hold.proofs.Bricks.{false_true}
 use Rattle.hold.proofs.Table.{Into, Changed, into_change, mem_change, tags-change, apart-left, apart_right, apart-insert}
 use Rattle.hold.proofs.Moves.{moves}
-use Rattle.hold.proofs.Truth.{Grows, grows_same, TrueOf, true_grows, Linked, LocalOf, Local, Tie, Facts, Gave, gave_of, front-front, linked_grows, Caller, Asker, FreshOf, Fresh, nothing}
+use Rattle.hold.proofs.Truth.{Grows, grows_same, TrueOf, true_grows, Linked, LocalOf, Local, Tie, Facts, Gave, gave_of, front-front, linked_grows, Caller, Asker, Fresh, nothing}
 use Rattle.hold.proofs.Edits.{edit_grows, edit_linked}
 
 -- packets that are said are true

@@ -1,13 +1,13 @@
 -- It never comes to a stand, for whoever goes by the rules: each round of a taking and two due texts, one each way, brings a byte, or the end. Assumes nothing.
-use Rattle.std.proofs.Common.{◌≡◌, ℕ, zero, suc, ◌+◌, ◌*◌, ◌<◌, ◌≤◌, Bool, true, false, ◌&&◌, T, List, [], ◌∷◌, ◌++◌, length, drop, sym, refl, ap, ◌∙◌, subst, ⊎_elim, append_assoc, append-nil, arith, length-append}
+use Rattle.std.proofs.Common.{◌≡◌, ℕ, zero, suc, ◌+◌, ◌*◌, ◌<◌, ◌≤◌, Bool, true, T, List, [], ◌∷◌, ◌++◌, length, drop, sym, refl, ap, ◌∙◌, subst, ⊎_elim, append_assoc, append-nil, arith, length-append}
 use Rattle.std.proofs.lemmas.Bool.{and_parts, and_from, eq-eqb, cases_Bool, cases_lt}
 use Rattle.hold.specs.Packet.{Settings}
 use Rattle.hold.specs.Conn.{Conn, Phase, Asked, Half, Open, Gone, Last}
-use Rattle.hold.specs.World.{Who, L, R, World, start, end, other, is_open, is_asked, gone}
+use Rattle.hold.specs.World.{Who, L, R, World, start, other, is_open}
 use Rattle.hold.specs.Promise.{At, One, lives}
 use Rattle.hold.specs.Rules.{Front, is_half}
 use Rattle.hold.specs.Self.{missing}
-use Rattle.hold.specs.Live.{System, only, Reach, Pair, Heard, Brought, Took, AllCame, RulesBring}
+use Rattle.hold.specs.Live.{System, only, Reach, Pair, Brought, Took, AllCame, RulesBring}
 use Rattle.hold.proofs.Table.{one_tag}
 use Rattle.hold.proofs.Truth.{FactsOf, front_length, Asker}
 use Rattle.hold.proofs.Inv.{Inv, apart-at}

@@ -1,12 +1,12 @@
 -- Every event of the model is a move by the rules. Each theorem on all that can happen goes by moves, and not by events. Assumes nothing.
-use Rattle.std.proofs.Common.{◌≡◌, ℕ, zero, suc, ◌+◌, ◌-◌, Bool, true, false, not, ◌&&◌, eqb, List, [], ◌∷◌, length, take, drop, sym, refl, ap, subst, arith}
+use Rattle.std.proofs.Common.{◌≡◌, ℕ, zero, suc, ◌+◌, ◌-◌, true, not, ◌&&◌, eqb, List, [], ◌∷◌, length, take, drop, sym, refl, ap, subst, arith}
 use mathlib.Core.List.Memᴰ
 use mathlib.Core.List.{Memᴰ}
 use Rattle.std.proofs.lemmas.Bool.{cond_both, and_parts, or_parts, eqb-true, not-true}
 use Rattle.hold.specs.Packet.{Settings, Packet, Kind, Ask, Yes, Text, Bye, bare, larger, lower}
-use Rattle.hold.specs.Conn.{Conn, Phase, Asked, Half, Open, Gone, new, in_phase, open_with, gives, closes, takes, hears, says, due}
-use Rattle.hold.specs.World.{Who, World, Ev, Listens, Opens, Due, Gives, Closes, Takes, Sends, Breaks, Forgets, Hears, end, coming_to, put, changed, added, is_in, gone, is_open, is_asked, by_tag, by_theirs, Found, NotThere, There, says_if, due_by, due_if, bye_if, on_ask, on_yes, on_text, on_bye, on_kind, hears_nth, step}
-use Rattle.hold.specs.Promise.{At, tags, apart}
+use Rattle.hold.specs.Conn.{Conn, Phase, Asked, Half, Open, Gone, in_phase, open_with, gives, closes, takes, hears, says, due}
+use Rattle.hold.specs.World.{Who, World, Ev, Listens, Opens, Due, Gives, Closes, Takes, Sends, Breaks, Forgets, Hears, end, coming_to, put, changed, is_open, is_asked, by_tag, by_theirs, Found, NotThere, There, says_if, due_by, due_if, bye_if, on_ask, on_yes, on_text, on_bye, on_kind, hears_nth, step}
+use Rattle.hold.specs.Promise.{tags, apart}
 use Rattle.hold.specs.Rules.{Told, Said, asking, yes_of, truthful, bye, AllSaid, Edit, given-more, closed-now, taken_more, gone-now, opened-by, heard-by, Move, stays, listens, tells, edits, asks, answers}
 use Rattle.hold.proofs.Bricks.{stands_take, stands_drop}
 use Rattle.hold.proofs.Table.{one_tag, by_tag_mem, by_theirs_mem}

@@ -1,5 +1,5 @@
 -- The model never comes to a stand: its due texts and takings meet what the rules ask for. Assumes nothing.
-use Rattle.std.proofs.Common.{◌≡◌, ℕ, ◌+◌, ◌*◌, ◌≤◌, true, false, not, T, List, [], ◌∷◌, ◌++◌, length, refl, ap, ◌∙◌, arith}
+use Rattle.std.proofs.Common.{◌≡◌, ◌+◌, ◌*◌, ◌≤◌, true, false, not, T, List, [], ◌∷◌, ◌++◌, length, refl, ap, ◌∙◌, arith}
 use Rattle.std.proofs.lemmas.Bool.{cond-true, cond-false, and_from, eq-eqb, le-ltb}
 use Rattle.hold.specs.Packet.{Settings, Packet, Text}
 use Rattle.hold.specs.Conn.{Conn, Phase, Asked, Half, Open, Gone, open_with, takes, hears, due}

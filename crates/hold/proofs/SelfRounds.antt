@@ -4,8 +4,8 @@ use Rattle.std.proofs.lemmas.Bool.Decides.{nat_tests}
 use Rattle.std.proofs.lemmas.Bool.{and_parts, or_cases, or_left, or_right, eq-eqb, ltb-true, not-true, cases_lt, cases_eq, ne_eqb}
 use Rattle.hold.specs.Packet.{Settings, Packet, larger, lower, bare, Yes, Text}
 use Rattle.hold.specs.Conn.{Conn, Phase, Asked, Half, Open, Gone, Last, open_with, takes, hears, says, due, due_text}
-use Rattle.hold.specs.World.{Who, Ev, Due, Takes, Sends, Hears, end, other, coming_to, is_open, world}
-use Rattle.hold.specs.Promise.{At, lives}
+use Rattle.hold.specs.World.{Who, Ev, Due, Takes, Sends, Hears, other, coming_to, is_open, world}
+use Rattle.hold.specs.Promise.{lives}
 use Rattle.hold.specs.Code.{owes, wants_answer, has_bytes}
 use Rattle.hold.specs.Self.{Self, Clock, Brings, Take, speaks, makes, made, missing}
 use Rattle.hold.specs.Drive.{Both, round_moves, left, Nearer, RoundFalls}

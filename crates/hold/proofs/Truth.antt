@@ -3,7 +3,7 @@ use Rattle.std.proofs.Common.{◌≡◌, ℕ, ◌+◌, ◌<◌, ◌≤◌, Bool,
 use mathlib.Core.List.Memᴰ
 use mathlib.Core.List.{Memᴰ}
 use Rattle.hold.specs.Packet.{Settings, Packet, Piece, Kind, Ask, Yes, Text, Bye}
-use Rattle.hold.specs.Conn.{Conn, Last, NotSaid, from}
+use Rattle.hold.specs.Conn.{Conn, Last, NotSaid}
 use Rattle.hold.specs.World.{is_open, is_asked}
 use Rattle.hold.specs.Rules.{AtPlace, Front, is_half, Told}
 use Rattle.hold.proofs.Bricks.{stands_more}

@@ -1,10 +1,10 @@
 -- What the code of an end must be, to be an end of this world: its states stand for ends, and each call, packet and moment at which something is due does just the step of the world and sends just what the world sends.
 -- A state has only what is still needed, and an end of the model has all that ever was; so a state stands for many ends, and `Stands` is a relation. State and relation are parameters, so that a contract can name the record.
 -- Assumes nothing.
-use Rattle.std.specs.Prelude.{◌≡◌, ℕ, zero, suc, ◌+◌, ◌*◌, ◌/◌, ◌%◌, ◌^◌, ◌<◌, ◌≤◌, Bool, true, false, cond, not, ◌&&◌, ◌||◌, T, List, [], ◌∷◌, ◌++◌, length, ◌==◌, nat_le, nat_lt}
+use Rattle.std.specs.Prelude.{◌≡◌, ℕ, zero, suc, ◌+◌, ◌^◌, ◌<◌, ◌≤◌, Bool, true, false, cond, not, ◌&&◌, ◌||◌, T, List, [], ◌∷◌, ◌++◌, length, ◌==◌, nat_le, nat_lt}
 use mathlib.Core.List.{Memᴰ}
 use Rattle.hold.specs.Packet.{Settings, Packet, Kind, Ask, Yes, Text, Bye, bare}
-use Rattle.hold.specs.Conn.{Conn, Phase, Asked, Half, Gone, new, in_phase, open_with, gives, closes, takes, hears, says}
+use Rattle.hold.specs.Conn.{Conn, Asked, Half, Gone, new, in_phase, open_with, gives, closes, takes, hears, says}
 use Rattle.hold.specs.World.{Who, L, R, End, World, Ev, start, Listens, Opens, Due, Gives, Closes, Takes, Sends, Breaks, Forgets, Hears, end, other, coming_to, changed, added, is_in, is_open, is_asked, on_kind, step, gone, Found, NotThere, There, by_tag, by_theirs, says_if, due_if, bye_if}
 use Rattle.hold.specs.Promise.{tags}
 

@@ -1,7 +1,6 @@
 -- One connection at one end: what it is told and hears, and what it may say. Assumes nothing.
-use Rattle.std.specs.Prelude.{◌≡◌, ℕ, zero, suc, ◌+◌, ◌-◌, ◌*◌, ◌/◌, ◌%◌, ◌<◌, ◌≤◌, Bool, true, false, cond, not, ◌&&◌, ◌||◌, T, List, [], ◌∷◌, ◌++◌, length, take, drop, ◌==◌, nat_lt}
-use mathlib.Core.List.{Memᴰ}
-use Rattle.hold.specs.Packet.{Settings, Kind, Ask, Yes, Text, Bye, Packet, bare, Piece, has, byte_at, larger, lower}
+use Rattle.std.specs.Prelude.{ℕ, zero, suc, ◌+◌, ◌-◌, Bool, true, false, cond, not, ◌&&◌, ◌||◌, List, [], ◌∷◌, ◌++◌, length, take, drop, ◌==◌, nat_lt}
+use Rattle.hold.specs.Packet.{Settings, Text, Packet, Piece, has, byte_at, larger, lower}
 
 pub data Phase : Type 0 where
   Asked : Phase

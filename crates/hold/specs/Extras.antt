@@ -1,7 +1,7 @@
 -- What else is promised, beyond the main promise: of room, of tags, of byes, of what a text touches. Each is a type; a proof of the type is the theorem. Assumes nothing.
-use Rattle.std.specs.Prelude.{◌≡◌, ℕ, ◌+◌, ◌<◌, ◌≤◌, true, false, T, ◌⊎◌, List, ◌∷◌, length, ◌≢◌}
+use Rattle.std.specs.Prelude.{◌≡◌, ℕ, ◌+◌, ◌<◌, ◌≤◌, true, ◌⊎◌, List, ◌∷◌, length, ◌≢◌}
 use mathlib.Core.List.{Memᴰ}
-use Rattle.hold.specs.Packet.{Settings, Packet, Kind, Text, Bye, bare}
+use Rattle.hold.specs.Packet.{Settings, Packet, Text, Bye, bare}
 use Rattle.hold.specs.Conn.{Conn, Gone, in_phase, open_with, hears, says, due, ends}
 use Rattle.hold.specs.World.{Who, World, Ev, Breaks, end, other, coming_to, is_open, on_kind, step, world}
 use Rattle.hold.specs.Promise.{At, One, tags, apart, lives}

@@ -1,8 +1,8 @@
 -- What is promised of the whole, and of its parts. Each is a type; a proof of the type is the theorem. Assumes nothing.
-use Rattle.std.specs.Prelude.{◌≡◌, ℕ, zero, suc, ◌+◌, ◌*◌, ◌/◌, ◌%◌, ◌<◌, ◌≤◌, Bool, true, false, cond, not, ◌&&◌, ◌||◌, T, List, [], ◌∷◌, ◌++◌, length, take, drop, ◌==◌, ◌≢◌}
+use Rattle.std.specs.Prelude.{◌≡◌, ℕ, ◌+◌, ◌*◌, ◌<◌, ◌≤◌, Bool, true, false, not, ◌&&◌, T, List, [], ◌∷◌, ◌++◌, length, take, drop, ◌==◌, ◌≢◌}
 use mathlib.Core.List.{Memᴰ}
 use Rattle.hold.specs.Packet.{Settings, Packet, Piece}
-use Rattle.hold.specs.Conn.{Phase, Open, Gone, Last, Conn, hears, says}
+use Rattle.hold.specs.Conn.{Phase, Open, Gone, Last, Conn}
 use Rattle.hold.specs.World.{Who, L, R, End, World, Ev, Opens, Due, Gives, Closes, Takes, Sends, Breaks, Hears, end, other, step, world, is_open}
 
 -- a connection of an end

@@ -2,7 +2,7 @@
 -- chooses other texts, hands bytes on later or drops what it kept owes only that its events are such chains. The model's own events are one user of these rules. Assumes nothing.
 use Rattle.std.specs.Prelude.{◌≡◌, ℕ, zero, suc, ◌+◌, ◌<◌, ◌≤◌, Bool, true, false, T, List, [], ◌∷◌, ◌++◌, length, ◌==◌}
 use mathlib.Core.List.{Memᴰ}
-use Rattle.hold.specs.Packet.{Settings, Packet, Piece, Kind, Ask, Yes, Text, Bye, bare}
+use Rattle.hold.specs.Packet.{Settings, Packet, Piece, Ask, Yes, Text, Bye, bare}
 use Rattle.hold.specs.Conn.{Conn, Phase, Asked, Half, Open, Gone, NotSaid, new, in_phase, open_with, gives, closes, takes, heard, settle, turn, ends}
 use Rattle.hold.specs.World.{Who, L, R, World, Ev, start, end, other, coming_to, put, changed, added, is_in, gone, is_open, is_asked, step, world}
 use Rattle.hold.specs.Promise.{At, One, tags, apart, Holds}

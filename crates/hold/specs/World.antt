@@ -1,6 +1,5 @@
 -- Two ends with all their connections, the net between them, and whatever may happen. Assumes nothing.
-use Rattle.std.specs.Prelude.{◌≡◌, ℕ, zero, suc, ◌+◌, ◌*◌, ◌/◌, ◌%◌, ◌<◌, ◌≤◌, Bool, true, false, cond, not, ◌&&◌, ◌||◌, T, List, [], ◌∷◌, ◌++◌, length, ◌==◌}
-use mathlib.Core.List.{Memᴰ}
+use Rattle.std.specs.Prelude.{ℕ, zero, suc, Bool, true, false, cond, not, ◌&&◌, ◌||◌, List, [], ◌∷◌, ◌++◌, ◌==◌}
 use Rattle.hold.specs.Packet.{Settings, Kind, Ask, Yes, Text, Bye, Packet, bare}
 use Rattle.hold.specs.Conn.{Phase, Asked, Half, Open, Gone, Conn, new, in_phase, open_with, gives, closes, takes, hears, says, due}
 

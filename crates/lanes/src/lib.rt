@@ -1,4 +1,6 @@
 //! Which of sixteen lanes are in use, and which of them longest. Whatever lives in a lane stays in it as long as it lives; age is kept apart, in an order of lanes.
+#![tactic(auto)]
+
 ghost use Rattle.std.specs.Prelude.{◌≡◌, ◌≤◌, length};
 ghost use Rattle.lanes.specs.Order.{Apart, Low};
 

@@ -1,17 +1,14 @@
 -- The accounts of a book after something is written down.
-use Rattle.std.proofs.Common.{◌≡◌, ℕ, Bool, true, false, cond, not, ◌&&◌, ◌||◌, eqb, ◌⊎◌, List, [], ◌∷◌, ◌++◌, map, reverse, vec_items, sym, refl, ap, ◌∙◌, subst, inl, inr, ⊎_elim, append-nil, arith}
-use mathlib.Core.List.{Memᴰ}
+use Rattle.std.proofs.Common.{◌≡◌, ℕ, false, eqb, List, [], ◌∷◌, ◌++◌, map, reverse, vec_items, sym, refl, ap, ◌∙◌, subst, arith}
 use Rattle.std.proofs.lemmas.List.{reverse-append, map-append}
 use Rattle.std.proofs.lemmas.Simd.{map-map}
-use Rattle.std.proofs.lemmas.Bool.{cond_both, cond-true, cond-false, cases_Bool, eqb-true, ne_eqb}
+use Rattle.std.proofs.lemmas.Bool.{cond_both}
 use Rattle.std.proofs.lemmas.Bool.Decides.{nat_tests}
 use Rattle.hold.specs.Conn.{Conn}
 use Rattle.hold.specs.World.{Found, NotThere, There, by_tag, is_in}
 use Rattle.hold.specs.Promise.{tags}
-use Rattle.hold.proofs.Bricks.{false_true}
-use Rattle.ledger.specs.Sentence.{Account}
 use Rattle.ledger.specs.Tells.{Tell, seen, looked, begun, wrote, gave, took}
-use Rattle.ledger.specs.Books.{fresh, noted, noted_by, view_of, entries, bytes_of, account, accounts_of, accounts, Keeps, Looked}
+use Rattle.ledger.specs.Books.{fresh, noted_by, view_of, entries, bytes_of, account, accounts_of, accounts, Keeps, Looked}
 use Rattle.ledger.specs.declared.book.Book.{Book}
 use Rattle.ledger.specs.declared.record.Record.{Record}
 use Rattle.ledger.specs.declared.record.Entry.{Entry}

@@ -1,21 +1,19 @@
 -- A book keeps the connections of an end after each step, once what was done is written down and a look is taken.
-use Rattle.std.proofs.Common.{◌≡◌, ℕ, ◌-◌, min, Bool, true, false, ◌⊎◌, List, [], ◌∷◌, ◌++◌, map, length, take, drop, Some, None, vec_items, Option, sym, refl, ap, ◌∙◌, subst, inl, inr, ⊎_elim}
-use Rattle.std.proofs.lemmas.Bool.{cases_Bool, cond-false, ne_eqb}
-use Rattle.hold.specs.Packet.{Settings, Packet, Kind, Ask}
-use Rattle.hold.specs.Conn.{Conn, Phase, Asked, Gone, new, in_phase, gives, closes, takes}
-use Rattle.hold.specs.World.{Who, End, World, end, put, added, changed, change, by_tag, Found, NotThere, There, is_in, on_kind}
+use Rattle.std.proofs.Common.{◌≡◌, ℕ, ◌-◌, min, true, false, List, [], ◌∷◌, ◌++◌, map, length, take, drop, vec_items, sym, refl, ap, ◌∙◌, subst, ⊎_elim}
+use Rattle.std.proofs.lemmas.Bool.{cases_Bool}
+use Rattle.hold.specs.Packet.{Settings, Packet, Kind}
+use Rattle.hold.specs.Conn.{Conn, Asked, Gone, new, in_phase, gives, closes, takes}
+use Rattle.hold.specs.World.{Who, World, end, put, added, changed, by_tag, Found, NotThere, There, is_in, on_kind}
 use Rattle.hold.specs.Promise.{tags}
 use Rattle.hold.proofs.Bricks.{false_true}
 use Rattle.hold.proofs.Table.{mem_tags, by_tag_mem, tags-change}
 use Rattle.hold.proofs.Puts.{end-put}
-use Rattle.ledger.specs.Sentence.{Account}
-use Rattle.ledger.specs.Tells.{Tell, looked, begun, with_new, wrote, gave, took}
-use Rattle.ledger.specs.Books.{fresh, view_of, entries, bytes_of, accounts_of, accounts, Keeps, Looked, Met}
+use Rattle.ledger.specs.Tells.{begun, with_new, gave, took}
+use Rattle.ledger.specs.Books.{fresh, entries, bytes_of, accounts_of, accounts, Keeps, Looked, Met}
 use Rattle.ledger.specs.declared.book.Book.{Book}
-use Rattle.ledger.specs.declared.record.Record.{Record}
 use Rattle.ledger.specs.declared.record.Entry.{Entry}
 use Rattle.ledger.proofs.Looks.{wrote-other}
-use Rattle.ledger.proofs.Steps.{Sound, After, Wider, in_new, after_same, after-new, after_turn, after-gone, after-gave, after-took, after-close, after-heard}
+use Rattle.ledger.proofs.Steps.{Sound, After, Wider, in_new, after-new, after-gone, after-gave, after-took, after-close, after-heard}
 use Rattle.ledger.proofs.Accounts.{bytes_wrote, accounts-gave, accounts-took, accounts-begun, keeps_look}
 
 -- no bytes of a tag that is not there

@@ -1,19 +1,19 @@
 -- After each step of an end, a look at its connections keeps the accounts true.
-use Rattle.std.proofs.Common.{◌≡◌, ℕ, ◌+◌, ◌-◌, ◌≤◌, min, Bool, true, false, cond, not, ◌&&◌, ◌||◌, eqb, ltb, ◌⊎◌, List, [], ◌∷◌, ◌++◌, map, length, take, drop, sym, refl, ap, ◌∙◌, subst, inl, inr, ⊎_elim, append_assoc, append-nil, arith, length-append}
+use Rattle.std.proofs.Common.{◌≡◌, ℕ, ◌+◌, ◌-◌, ◌≤◌, min, Bool, true, false, not, ◌&&◌, ◌||◌, eqb, List, [], ◌∷◌, ◌++◌, map, length, take, drop, sym, refl, ap, ◌∙◌, subst, ⊎_elim, append_assoc, append-nil, arith, length-append}
 use mathlib.Core.List.Memᴰ
 use mathlib.Core.List.{Memᴰ}
 use Rattle.std.proofs.lemmas.List.{map-id, drop_at, take-append-drop, length-take, length-drop}
 use Rattle.std.proofs.lemmas.Simd.{map-map}
 use Rattle.std.proofs.lemmas.Bool.Decides.{nat_tests}
 use Rattle.std.proofs.lemmas.Bool.{and_parts, and_from, not-true, eqb-true, eq-eqb, ne_eqb, cases_Bool, cond_both, cond-true, cond-false}
-use Rattle.hold.specs.Packet.{Settings, Packet, Kind, Ask, Yes, Text, Bye, lower}
-use Rattle.hold.specs.Conn.{Conn, Phase, Asked, Half, Open, Gone, new, in_phase, open_with, gives, closes, takes, hears}
-use Rattle.hold.specs.World.{Who, World, Ev, end, change, gone, is_open, is_asked, by_tag, Found, NotThere, There, is_in}
+use Rattle.hold.specs.Packet.{lower}
+use Rattle.hold.specs.Conn.{Conn, Phase, Gone, new, in_phase, gives, takes}
+use Rattle.hold.specs.World.{change, gone, is_open, by_tag, Found, NotThere, There, is_in}
 use Rattle.hold.specs.Promise.{tags, apart}
 use Rattle.hold.proofs.Bricks.{false_true}
 use Rattle.hold.proofs.Table.{mem_tags, one_tag, by_tag_mem, by_tag-finds, mem_changed, tags-change}
 use Rattle.ledger.specs.Sentence.{Account}
-use Rattle.ledger.specs.Tells.{is_said, Tells, Tell, seen, looked, begun, with_new, wrote, gave, took}
+use Rattle.ledger.specs.Tells.{Tells, Tell, seen, looked, begun, wrote, gave, took}
 
 -- accounts of a table that stays as it is
 pub tell_same : (h : Account → Account) (bs : List Account) (cs : List Conn) → Tell bs cs → ((a : Account) (c : Conn) → Memᴰ c cs → Tells a c → Tells (h a) c) → Tell (map h bs) cs

@@ -1,18 +1,18 @@
 -- What is written down of a run of the model satisfies the sentence.
-use Rattle.std.proofs.Common.{◌≡◌, ℕ, ◌≤◌, Bool, true, false, ◌&&◌, eqb, ◌⊎◌, List, [], ◌∷◌, ◌++◌, length, sym, refl, ap, ◌∙◌, subst, inl, inr, ⊎_elim, append_assoc, arith, length-append}
+use Rattle.std.proofs.Common.{◌≡◌, ℕ, Bool, true, false, ◌&&◌, eqb, ◌⊎◌, List, [], ◌∷◌, ◌++◌, length, sym, refl, ap, ◌∙◌, subst, inl, inr, ⊎_elim, append_assoc, arith, length-append}
 use mathlib.Core.List.Memᴰ
 use mathlib.Core.List.{Memᴰ}
 use Rattle.std.proofs.lemmas.Bool.Decides.{nat_tests}
-use Rattle.std.proofs.lemmas.Bool.{and_parts, not-true, eqb-true, eq-eqb, cases_Bool}
+use Rattle.std.proofs.lemmas.Bool.{and_parts, not-true}
 use Rattle.hold.specs.Packet.{Settings}
 use Rattle.hold.specs.Conn.{Conn, Last, NotSaid, At, ends}
 use Rattle.hold.specs.World.{Who, L, R, World, Ev, end, other, world, is_in}
 use Rattle.hold.specs.Promise.{Holds, tags, apart}
 use Rattle.hold.proofs.Bricks.{false_true}
-use Rattle.hold.proofs.Table.{mem_tags, one_tag}
+use Rattle.hold.proofs.Table.{mem_tags}
 use Rattle.hold.proofs.Inv.{inv, apart-at}
 use Rattle.hold.proofs.Parts.{holds, told_exactly, unique}
-use Rattle.ledger.specs.Sentence.{Account, One, Delivered, Paired, Whole, Sentence}
+use Rattle.ledger.specs.Sentence.{Account, Delivered, Paired, Whole, Sentence}
 use Rattle.ledger.specs.Tells.{is_said, Tells, Tell}
 
 -- the connection that an account of the list tells of

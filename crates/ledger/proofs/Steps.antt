@@ -1,10 +1,10 @@
 -- Each step of an end keeps its accounts true, once a look is taken.
-use Rattle.std.proofs.Common.{◌≡◌, ℕ, ◌-◌, ◌≤◌, min, Bool, true, false, cond, not, ◌&&◌, ◌||◌, eqb, ◌⊎◌, List, [], ◌∷◌, ◌++◌, map, length, take, drop, sym, refl, ap, ◌∙◌, subst, inl, inr, ⊎_elim, append-nil, arith}
+use Rattle.std.proofs.Common.{◌≡◌, ℕ, ◌-◌, ◌≤◌, min, Bool, true, false, cond, not, ◌&&◌, ◌||◌, eqb, ◌⊎◌, List, [], ◌∷◌, map, length, take, drop, sym, refl, ap, ◌∙◌, subst, inl, inr, ⊎_elim, append-nil, arith}
 use mathlib.Core.List.{Memᴰ}
 use Rattle.std.proofs.lemmas.Bool.Decides.{nat_tests}
-use Rattle.std.proofs.lemmas.Bool.{and_parts, and_from, not-true, eqb-true, eq-eqb, cases_Bool, cond_both, cond-true, or_left, or_right}
+use Rattle.std.proofs.lemmas.Bool.{and_from, eq-eqb, cases_Bool, cond_both, cond-true, or_left, or_right}
 use Rattle.hold.specs.Packet.{Settings, Packet, Kind, Ask, Yes, Text, Bye, bare}
-use Rattle.hold.specs.Conn.{Conn, Phase, Asked, Half, Open, Gone, new, in_phase, open_with, gives, closes, takes, heard, hears, turn}
+use Rattle.hold.specs.Conn.{Conn, Phase, Half, Gone, new, in_phase, open_with, gives, closes, takes, heard, hears, turn}
 use Rattle.hold.specs.World.{Who, L, R, End, World, Ev, end, put, changed, added, change, gone, is_open, is_asked, by_tag, by_theirs, Found, NotThere, There, is_in, on_ask, on_yes, on_text, on_bye, on_kind, world}
 use Rattle.hold.specs.Promise.{At, tags, apart}
 use Rattle.hold.proofs.Bricks.{false_true}

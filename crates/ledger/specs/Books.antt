@@ -1,5 +1,5 @@
 -- The accounts that a book has.
-use Rattle.std.specs.Prelude.{◌≡◌, ℕ, Bool, true, false, cond, not, ◌||◌, List, [], ◌∷◌, ◌++◌, map, reverse, length, Some, None, vec_items, Option, ◌==◌}
+use Rattle.std.specs.Prelude.{◌≡◌, ℕ, false, cond, not, ◌||◌, List, [], ◌∷◌, ◌++◌, map, reverse, length, Some, None, vec_items, Option, ◌==◌}
 use Rattle.hold.specs.World.{is_open, is_asked, Found, NotThere, There, by_tag, is_in}
 use Rattle.hold.specs.Code.{owes}
 use Rattle.hold.specs.Conn.{Conn}

@@ -1,5 +1,5 @@
 -- The texts of one moment, one after the other.
-use Rattle.std.proofs.Common.{◌≡◌, ℕ, zero, suc, ◌-◌, ◌<◌, ◌≤◌, min, max, Bool, true, false, cond, not, ◌||◌, ltb, ◌⊎◌, List, [], ◌∷◌, length, Some, None, Option, refl, ap, ◌∙◌, inl, inr, ⊎_elim, arith}
+use Rattle.std.proofs.Common.{◌≡◌, ℕ, zero, suc, ◌-◌, ◌<◌, ◌≤◌, min, max, Bool, true, false, cond, ◌||◌, ltb, ◌⊎◌, List, [], ◌∷◌, length, Some, None, Option, refl, ap, ◌∙◌, inl, inr, ⊎_elim, arith}
 use Rattle.std.proofs.lemmas.List.{length-map, length-replicate}
 use Rattle.std.proofs.lemmas.Bool.{cond_both, cases_lt}
 use Rattle.std.proofs.lemmas.Bool.Decides.{nat_tests}
@@ -13,7 +13,7 @@ use Rattle.pacing.specs.declared.numbers.Why.{Why}
 use Rattle.pacing.specs.declared.clock.Clock.{Clock}
 use Rattle.pacing.specs.declared.next.Pending.{Pending}
 use Rattle.pacing.specs.declared.next.Pending.TheVariants.{Nothing, Answer, AnswerThenSpeak, Speak, Due, Tick}
-use Rattle.pacing.specs.Text.{end_of, is_last, due, answer}
+use Rattle.pacing.specs.Text.{end_of, is_last, due}
 use Rattle.pacing.specs.Clock.{restarted, sent_text, saying, by_clock, with_bytes, with_last, is_clock}
 use Rattle.pacing.specs.Next.{new_of, new_text, next_text, up_to_date, after}
 use Rattle.pacing.specs.Promises.{Happens, happened, Came, Opened, Owing, Heard, Sent, clock_after}

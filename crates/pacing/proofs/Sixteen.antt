@@ -15,7 +15,7 @@ use Rattle.pacing.specs.Text.{end_of, due}
 use Rattle.pacing.specs.Clock.{restarted, sent_text, heard, is_clock, by_clock}
 use Rattle.pacing.specs.Next.{new_text, next_text}
 use Rattle.pacing.specs.Promises.{Happens, Came, Opened, Owing, Heard, Sent, happened, clock_after}
-use Rattle.pacing.specs.UnderWay.{move_by, confirmed, cleared, sending, moves_of, way, ByRule, Ruled, RowsEnough, NewWhenFew}
+use Rattle.pacing.specs.UnderWay.{move_by, confirmed, cleared, sending, moves_of, ByRule, Ruled, RowsEnough, NewWhenFew}
 
 speaks_either : (n : Numbers) (c : Clock) (now : ℕ) (t : Choice) → next_text n c Speak now ≡ Some t → (new_text n c ≡ Some t) ⊎ (t ≡ due n Why.Due)
 speaks_either n c now t e = go (new_text n c) refl

@@ -1,4 +1,6 @@
 //! Which text a connection sends next, and what it does at a tick.
+#![tactic(auto)]
+
 pub mod clock;
 pub mod next;
 pub mod numbers;

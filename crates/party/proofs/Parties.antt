@@ -1,9 +1,9 @@
 -- A call that an end did, written down, is a step of the model's end with its book.
-use Rattle.std.proofs.Common.{◌≡◌, ℕ, ◌+◌, ◌-◌, ◌≤◌, min, Bool, true, false, cond, not, ◌&&◌, ◌||◌, eqb, leb, ◌⊎◌, List, [], ◌∷◌, ◌++◌, length, take, drop, Some, None, vec_items, Option, sym, refl, ap, ◌∙◌, subst, inl, inr, ⊎_elim, arith}
+use Rattle.std.proofs.Common.{◌≡◌, ℕ, ◌-◌, ◌≤◌, min, Bool, false, ◌&&◌, ◌||◌, eqb, leb, List, [], ◌∷◌, ◌++◌, length, take, drop, Some, None, vec_items, Option, sym, refl, ap, ◌∙◌, subst, ⊎_elim, arith}
 use Rattle.std.proofs.lemmas.List.{length-drop, length-take, take_all, take_at}
 use Rattle.std.proofs.lemmas.Bool.{and_from, and_parts, cases_Bool, cases_lt, cond_both, cond-false, le-leb, leb-true}
 use Rattle.std.proofs.lemmas.Bool.Decides.{nat_tests}
-use Rattle.hold.specs.Conn.{Conn, Asked, new, closes, gives, takes}
+use Rattle.hold.specs.Conn.{Conn, Asked, new}
 use Rattle.hold.specs.Packet as m
 use Rattle.hold.specs.World.{L, R, Breaks, Closes, End, Ev, Forgets, Found, Gives, NotThere, Opens, Sends, There, Takes, Who, World, added, by_tag, end, is_in, on_kind, put, start, step, world}
 use Rattle.hold.proofs.Bricks.{false_true}
@@ -25,7 +25,7 @@ use Rattle.ledger.specs.declared.book.Book.{Book}
 use Rattle.ledger.specs.declared.record.View.{View}
 use Rattle.ledger.proofs.Accounts.{keeps_as}
 use Rattle.ledger.proofs.Kept.{keeps_close, keeps_gone, keeps_gave, keeps_took, keeps_opened, keeps_heard}
-use Rattle.ledger.proofs.Steps.{Sound, sound}
+use Rattle.ledger.proofs.Steps.{sound}
 use Rattle.party.specs.Looks.{SeenIn}
 use Rattle.party.specs.Plays.{Plays, Acted, Acts, Draws, Moves, says_now}
 use Rattle.party.specs.declared.Party.{Party}

@@ -1,5 +1,5 @@
 -- What is seen of a connection of the code is what is to be seen of the model's.
-use Rattle.std.proofs.Common.{◌≡◌, ℕ, ◌<◌, Bool, not, List, length, get_or, Some, None, Option, sym, refl, ap, ◌∙◌, subst, arith}
+use Rattle.std.proofs.Common.{◌≡◌, ℕ, Bool, not, List, get_or, Some, None, sym, ap, ◌∙◌}
 use Rattle.hold.specs.Code.{owes}
 use Rattle.hold.specs.Conn.{Conn}
 use Rattle.hold.specs.Packet.{Settings}
@@ -15,7 +15,7 @@ use Rattle.table.specs.Lodges.{InLane, Lodges}
 use Rattle.table.specs.Search.{finds}
 use Rattle.table.specs.declared.Table.{Table}
 use Rattle.table.specs.declared.Wanted.TheVariants.{Tag}
-use Rattle.table.proofs.Housing.{Agree, is_there_lem, not_there}
+use Rattle.table.proofs.Housing.{is_there_lem, not_there}
 use Rattle.table.proofs.Lodging.{by_tag_lem}
 
 abbrev view_from : Connection → Bool → View

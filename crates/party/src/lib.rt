@@ -1,5 +1,7 @@
 //! An end with what is written down of its users: each call, packet and due moment is a step of the model's end, and the
 //! book keeps what users see of it.
+#![tactic(auto)]
+
 mod calls;
 mod look;
 

@@ -1,4 +1,6 @@
 //! Carries texts through a sending ring and a receiving ring, so that what they cost can be measured.
+#![tactic(auto)]
+
 ghost use Rattle.std.specs.Prelude.{◌≤◌};
 
 use lent::bits::WORDS;

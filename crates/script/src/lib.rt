@@ -1,4 +1,6 @@
 //! Lines of a script: calls of users, moments of ends, doings of the net.
+#![tactic(auto)]
+
 mod argument;
 pub mod line;
 pub mod print;

@@ -1,4 +1,6 @@
 //! The columns of faults, by example.
+#![tactic(auto)]
+
 ghost use Rattle.std.specs.Prelude.{◌≡◌};
 ghost use Rattle.script.specs.Parse.{parse};
 ghost use Rattle.script_cases.specs.Columns.{column_of};

@@ -1,11 +1,10 @@
 -- The rounds bring over all that was given, as users see it.
-use Rattle.std.proofs.Common.{◌≡◌, ℕ, ◌+◌, ◌-◌, ◌*◌, ◌^◌, ◌<◌, ◌≤◌, min, Bool, true, false, not, T, List, [], ◌∷◌, ◌++◌, length, drop, Some, None, Ok, Err, Option, Result, sym, refl, ap, ◌∙◌, subst, arith, length-drop}
+use Rattle.std.proofs.Common.{◌≡◌, ℕ, ◌+◌, ◌-◌, ◌*◌, ◌^◌, ◌<◌, ◌≤◌, min, true, false, not, T, List, length, Some, None, Ok, Err, Option, Result, sym, refl, ap, ◌∙◌, subst, arith, length-drop}
 use mathlib.Core.List.{Memᴰ}
-use Rattle.std.proofs.lemmas.Bool.{not-true}
 use Rattle.hold.specs.Conn.{Asked, Conn, Gone, Half, Open, Phase}
 use Rattle.hold.specs.Drive.{Both, HasAll, drive, left}
 use Rattle.hold.specs.Packet as m
-use Rattle.hold.specs.Promise.{At, lives, tags, apart}
+use Rattle.hold.specs.Promise.{At, lives}
 use Rattle.hold.specs.Self.{made, missing}
 use Rattle.hold.specs.World.{Ev, Found, L, NotThere, R, There, Who, World, by_tag, end, gone, is_asked, other, world}
 use Rattle.hold.proofs.Bricks.{false_true}
@@ -15,7 +14,7 @@ use Rattle.hold.proofs.SelfRounds.{left-most}
 use Rattle.hold.proofs.Table.{by_tag_mem, one_tag}
 use Rattle.packet.specs.Sizes.{capacity}
 use Rattle.lent.specs.Sending.{most}
-use Rattle.connection.specs.Stand.{Rings, Stand1}
+use Rattle.connection.specs.Stand.{Rings}
 use Rattle.table.specs.Lodges.{InLane, Lodges}
 use Rattle.table.specs.Search.{finds}
 use Rattle.table.specs.declared.Table.{Table}
@@ -23,16 +22,15 @@ use Rattle.table.specs.declared.Wanted.TheVariants.{Tag}
 use Rattle.table.proofs.Housing.{Agree}
 use Rattle.table.proofs.Lodging.{by_tag_lem}
 use Rattle.ledger.specs.Books.{accounts, view_of}
-use Rattle.ledger.specs.Sentence.{Account, One}
+use Rattle.ledger.specs.Sentence.{Account}
 use Rattle.ledger.specs.Tells.{Tells}
 use Rattle.ledger.specs.declared.record.View.{View}
 use Rattle.ledger.proofs.Sentences.{conn_of_lem}
 use Rattle.party.specs.Plays.{Plays}
 use Rattle.party.specs.declared.Fault.{Fault}
-use Rattle.simulation.specs.Carry.{Brought, Carried, Driven, Goes, Seen, driven_to}
+use Rattle.simulation.specs.Carry.{Brought, Carried, Driven, Seen, driven_to}
 use Rattle.simulation.specs.Shows.{Runs, Shows, party_of}
 use Rattle.simulation.specs.declared.pair.Pair.{Pair}
-use Rattle.simulation.proofs.Moving.{not-not}
 
 plays_at : (cfg : m.Settings) (p : Pair) (w : World) → Shows cfg p w → (o : Who) → Plays (party_of o p) (end o w)
 plays_at cfg p w s L = s.left

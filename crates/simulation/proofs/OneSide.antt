@@ -1,17 +1,15 @@
 -- What a party does, with its net and the tags that were drawn, is what one side does.
-use Rattle.std.proofs.Common.{◌≡◌, ℕ, ◌-◌, ◌<◌, Bool, true, false, cond, not, ◌||◌, eqb, ◌⊎◌, List, [], ◌∷◌, ◌++◌, length, get_or, sym, refl, ap, ◌∙◌, subst, inl, inr, ⊎_elim, arith}
-use Rattle.std.proofs.lemmas.Bool.{cond-true, eqb-true, eq-eqb, not-true, or_cases, or_parts}
-use Rattle.std.proofs.lemmas.Bool.Decides.{nat_tests}
+use Rattle.std.proofs.Common.{◌≡◌, ℕ, ◌-◌, ◌<◌, Bool, true, false, cond, not, ◌||◌, eqb, List, [], ◌∷◌, ◌++◌, length, get_or, sym, refl, ap, ◌∙◌, subst, inl, inr, ⊎_elim, arith}
+use Rattle.std.proofs.lemmas.Bool.{cond-true, eqb-true, not-true, or_cases}
 use Rattle.hold.specs.Packet as m
-use Rattle.hold.specs.World.{End, Ev, Hears, L, R, Who, World, coming_to, end, hears_nth, is_in, on_kind, other, put, start, step, world}
-use Rattle.hold.proofs.Bricks.{false_true}
+use Rattle.hold.specs.World.{End, Ev, Hears, L, R, Who, World, coming_to, hears_nth, is_in, on_kind, other, put, step, world}
 use Rattle.hold.proofs.Inv.{inv, apart-at}
 use Rattle.hold.specs.Rules.{Move, stays, listens, tells as says, edits, asks, answers}
 use Rattle.hold.proofs.Moves.{moves}
 use Rattle.packet.specs.Packets.{packet}
 use Rattle.packet.specs.declared.packet.Packet.{Packet}
 use Rattle.endpoint.specs.Stands as E
-use Rattle.party.specs.Plays.{Acted, Draws, Moves, Plays}
+use Rattle.party.specs.Plays.{Acted, Draws, Moves}
 use Rattle.party.specs.declared.Party.{Party}
 use Rattle.simulation.specs.Shows.{Drawn, Half, Next, net_of}
 use Rattle.simulation.proofs.Drawn.{New, fresh, in_push, nth}

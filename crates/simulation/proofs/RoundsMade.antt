@@ -1,10 +1,10 @@
 -- Moves one after the other, and rounds.
-use Rattle.std.proofs.Common.{◌≡◌, ℕ, zero, suc, ◌+◌, ◌-◌, ◌^◌, min, Bool, true, false, ◌⊎◌, List, [], ◌∷◌, ◌++◌, length, Ok, Err, sym, refl, ap, ◌∙◌, subst, inl, inr, ⊎_elim, append_assoc, append-nil, arith, length-append}
+use Rattle.std.proofs.Common.{◌≡◌, ℕ, zero, suc, ◌+◌, ◌-◌, ◌^◌, min, Bool, true, false, List, [], ◌∷◌, ◌++◌, length, Ok, sym, refl, ap, ◌∙◌, subst, append_assoc, append-nil, arith, length-append}
 use Rattle.std.proofs.lemmas.Bool.{cond-false, cond-true}
 use Rattle.hold.specs.Drive.{drive, round_moves, speaks_in}
 use Rattle.hold.specs.Packet as m
 use Rattle.hold.specs.Self.{Brings, Clock, Self, Take, made, makes}
-use Rattle.hold.specs.World.{Ev, L, R, Who, World, by_tag, end, other, world}
+use Rattle.hold.specs.World.{Ev, Who, World, by_tag, end, other, world}
 use Rattle.hold.proofs.SelfMoves.{made_app}
 use Rattle.packet.specs.Sizes.{capacity}
 use Rattle.simulation.specs.Carry.{Driven, Goes, Made1, MadeAll, UpTo, driven_to}

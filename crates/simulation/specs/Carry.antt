@@ -1,7 +1,7 @@
 -- Moves that ends make by themselves, and the rounds that bring over all that was given.
 use Rattle.std.specs.Prelude.{◌≡◌, ℕ, ◌+◌, ◌-◌, ◌*◌, ◌^◌, ◌≤◌, min, true, List, [], ◌∷◌, ◌++◌, length, Some, None, Ok, Err, Option, Result}
 use mathlib.Core.List.{Memᴰ}
-use Rattle.hold.specs.Drive.{drive, round_moves}
+use Rattle.hold.specs.Drive.{drive}
 use Rattle.hold.specs.Packet as m
 use Rattle.hold.specs.Self.{Self, made, makes}
 use Rattle.hold.specs.World.{Ev, Who, World, by_tag, end, other, world}

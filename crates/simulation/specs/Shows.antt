@@ -1,7 +1,7 @@
 -- For which worlds of the model a pair stands.
 use Rattle.std.specs.Prelude.{◌≡◌, ℕ, ◌-◌, ◌<◌, true, cond, ◌&&◌, List, [], ◌∷◌, ◌++◌, map, reverse, length, Ok, Err, vec_items, Result, nat_le}
 use Rattle.hold.specs.Packet as m
-use Rattle.hold.specs.World.{Ev, L, R, Sends, Who, World, by_tag, coming_to, end, is_in, other, start, world}
+use Rattle.hold.specs.World.{Ev, L, R, Sends, Who, World, by_tag, coming_to, end, is_in, other, world}
 use Rattle.packet.specs.Packets.{packet}
 use Rattle.packet.specs.declared.packet.Packet.{Packet}
 use Rattle.endpoint.specs.Saying.{upto_of}

@@ -1,4 +1,6 @@
 //! Two ends and a net that has every packet ever sent, driven by any script; and what is promised of what their users see.
+#![tactic(auto)]
+
 ghost use Rattle.simulation.specs.Shows.{Runs};
 
 mod carry;

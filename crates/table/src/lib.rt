@@ -1,4 +1,6 @@
 //! The table of an end's connections: each lives in a lane, and an order of age stands beside.
+#![tactic(auto)]
+
 ghost use Rattle.std.specs.Prelude.{◌≡◌, length};
 
 mod calls;

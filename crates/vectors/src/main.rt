@@ -1,5 +1,7 @@
 //! Prints the checks of published vectors and that of 16 MiB, for which its speed is measured; then a packet of each kind in bytes, and the
 //! numbers by which damaged ones are refused.
+#![tactic(auto)]
+
 use crc32c::{crc32c, extend};
 use packet::packet::{Head, Kind, Packet};
 use wire::format::{read, write};

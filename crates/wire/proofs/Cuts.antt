@@ -1,5 +1,5 @@
 -- A packet that is cut, or has bytes behind it, has a length that its count does not say.
-use Rattle.std.proofs.Common.{◌≡◌, ℕ, ◌+◌, ◌<◌, ◌≤◌, List, ◌++◌, length, get_or, take, drop, Ok, Err, sym, ap, ◌∙◌, arith, length-append, take-append-drop, length-take-le}
+use Rattle.std.proofs.Common.{◌≡◌, ℕ, ◌<◌, ◌≤◌, List, ◌++◌, length, get_or, take, drop, Ok, Err, sym, ap, ◌∙◌, arith, length-append, take-append-drop, length-take-le}
 use Rattle.std.proofs.lemmas.List.{get_or_append_left}
 use Rattle.hold.specs.Packet as m
 use Rattle.wire.specs.declared.fault.Fault.TheVariants.{Shape}

@@ -1,5 +1,5 @@
 -- Maps over bits: a computed test, by elimination, that a linear map makes 0 of nothing but 0.
-use Rattle.std.proofs.Common.{◌≡◌, ℕ, zero, suc, ◌+◌, ◌*◌, ◌/◌, ◌%◌, ◌^◌, ◌<◌, Bool, true, cond, ◌&&◌, eqb, ◌⊎◌, sym, ap, ◌∙◌, inl, inr, ⊎_elim, one-mul, pow-suc, zero-mul, arith}
+use Rattle.std.proofs.Common.{◌≡◌, ℕ, zero, suc, ◌+◌, ◌*◌, ◌/◌, ◌%◌, ◌^◌, ◌<◌, Bool, true, cond, ◌&&◌, eqb, sym, ap, ◌∙◌, inl, inr, ⊎_elim, one-mul, pow-suc, zero-mul, arith}
 use lib.Bits.{bit_xor, xor_shr, xor_mod, xor_zero_r, xor_zero_l, xor_self, xor_shifted, xor_block}
 use Rattle.std.proofs.lemmas.Bool.{and_parts, eqb-true}
 use Rattle.crc32c.proofs.Linear.{swap4, bit_cases}

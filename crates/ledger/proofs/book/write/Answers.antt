@@ -1,4 +1,4 @@
-use Rattle.std.proofs.Common.{◌≡◌, true, is_ok, vec_items, vec_len, vec_capacity, refl, ◌∙◌, arith}
+use Rattle.std.proofs.Common.{◌≡◌, true, is_ok, vec_items, vec_len, refl, arith}
 use Rattle.ledger.proofs.Written.{pushed, counted, write_more, write_all_lem}
 use Rattle.ledger.proofs.book.write.Goals as goal
 

@@ -1,5 +1,5 @@
 use Rattle.std.proofs.Common.{◌≡◌, length, arith, rules}
-use Rattle.lent.proofs.Marks.{marked_none, marked_more}
+use Rattle.lent.proofs.Marks.{marked_more}
 use Rattle.lent.proofs.bits.mark.Goals as goal
 
 pub loop-done-preserved : goal.loop-done-preserved

@@ -1,4 +1,4 @@
-use Rattle.std.proofs.Common.{◌≡◌, ℕ, ◌+◌, ◌-◌, ◌≤◌, List, length, take, drop, sym, ap, ◌∙◌, arith, rules}
+use Rattle.std.proofs.Common.{◌≡◌, ◌-◌, ◌≤◌, length, drop, sym, ap, ◌∙◌, arith, rules}
 use Rattle.packet.specs.Sizes.{capacity}
 use Rattle.lent.proofs.Writes.{by_part, by_source}
 use Rattle.std.proofs.lemmas.List.{drop-drop, length-drop, places}

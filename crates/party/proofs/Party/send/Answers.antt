@@ -1,4 +1,3 @@
-use Rattle.packet.specs.Packets.{sent}
 use Rattle.party.proofs.Parties.{said_acts}
 use Rattle.party.proofs.Party.send.Goals as goal
 

@@ -1,4 +1,4 @@
-use Rattle.std.proofs.Common.{◌≡◌, vec_items, vec_len, refl, arith}
+use Rattle.std.proofs.Common.{vec_items, arith}
 use Rattle.ledger.specs.Books.{noted_in}
 use Rattle.party.proofs.Noting.{note_more, note_all_lem}
 use Rattle.party.proofs.calls.note_all.Goals as goal

@@ -1,4 +1,3 @@
-use Rattle.std.proofs.Common.{◌≡◌}
 use Rattle.party.proofs.Views.{view_is}
 use Rattle.party.proofs.look.view.Goals as goal
 

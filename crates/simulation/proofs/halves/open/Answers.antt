@@ -1,4 +1,4 @@
-use Rattle.std.proofs.Common.{[], ◌∷◌, vec_items, refl, arith}
+use Rattle.std.proofs.Common.{[], ◌∷◌, vec_items, arith}
 use Rattle.endpoint.specs.Stands as E
 use Rattle.hold.specs.World.{Opens}
 use Rattle.packet.specs.Packets.{packet}

@@ -1,4 +1,4 @@
-use Rattle.std.proofs.Common.{◌≡◌, true, is_ok, vec_items, vec_len, vec_capacity, arith}
+use Rattle.std.proofs.Common.{◌≡◌, true, is_ok, vec_items, arith}
 use Rattle.ledger.proofs.Written.{pushed}
 use Rattle.simulation.proofs.Nets.{net_push}
 use Rattle.simulation.proofs.halves.post.Goals as goal

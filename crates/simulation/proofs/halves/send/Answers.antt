@@ -1,4 +1,4 @@
-use Rattle.std.proofs.Common.{vec_items, refl, arith}
+use Rattle.std.proofs.Common.{vec_items}
 use Rattle.endpoint.specs.Stands as E
 use Rattle.hold.specs.World.{Sends}
 use Rattle.simulation.proofs.OneSide.{drawn_if, half_moves, posted, put_drawn, stepped_if}

@@ -1,4 +1,4 @@
-use Rattle.std.proofs.Common.{◌≡◌, ℕ, ◌+◌, ◌-◌, List, take, sym, refl, ap, ◌∙◌, arith}
+use Rattle.std.proofs.Common.{◌≡◌, ℕ, ◌+◌, ◌-◌, take, refl, ap, ◌∙◌, arith}
 use Rattle.lent.specs.Ring.{written}
 use Rattle.lent.proofs.Senders.{send_more}
 use Rattle.lent.proofs.sender.Sender.give_from.Goals as goal

@@ -1,8 +1,8 @@
-use Rattle.std.proofs.Common.{[], ◌∷◌, sym, refl, ◌∙◌, subst, arith}
+use Rattle.std.proofs.Common.{[], ◌∷◌, sym, refl, arith}
 use Rattle.std.proofs.lemmas.Bool.{not-true}
 use Rattle.hold.specs.World.{Due, Hears, by_tag, end, world}
 use Rattle.packet.specs.Packets.{packet}
-use Rattle.simulation.specs.Shows.{Shows, who_of}
+use Rattle.simulation.specs.Shows.{who_of}
 use Rattle.simulation.proofs.Moving.{answered, brought, hearing_answer, hearing_due, hearing_half, hearing_none, hearing_other, hearing_quiet, hearing_unsettled, not-not}
 use Rattle.simulation.proofs.pair.Pair.bring.Goals as goal
 

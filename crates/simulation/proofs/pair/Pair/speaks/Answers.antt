@@ -1,4 +1,4 @@
-use Rattle.std.proofs.Common.{◌≡◌, sym, ap, ◌∙◌}
+use Rattle.std.proofs.Common.{◌∙◌}
 use Rattle.hold.specs.World.{end}
 use Rattle.simulation.specs.Shows.{who_of}
 use Rattle.simulation.proofs.Moving.{either_false, either_true, speaks_none, speaks_some}
