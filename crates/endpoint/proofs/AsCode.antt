@@ -15,13 +15,13 @@ use Rattle.packet.specs.declared.packet.Packet.{Packet}
 use Rattle.packet.specs.declared.settings.Settings.{Settings}
 use Rattle.lent.specs.Sending.{free, most}
 use Rattle.table.proofs.Lodging.{all_full, there}
-use Rattle.table.specs.Search.{finds, has_room, is_there as isInTable}
+use Rattle.table.specs.Search.{finds, has_room, is_there as in_table}
 use Rattle.table.specs.declared.Wanted.TheVariants.{Peer}
 use Rattle.endpoint.specs.AsCode.{Agrees, CodeTaking, close_fits, give_fits, is_dropped, is_ok, room_for, takes_it}
 use Rattle.endpoint.specs.Calls.{Broken, Finished, Gave, Opened, break_number, close_number, give_number, open_number}
 use Rattle.endpoint.specs.Hearing.{HeardAs, hear_number, needs, too_far, zero_tag}
 use Rattle.endpoint.specs.Refusals.{number}
-use Rattle.endpoint.specs.Stands.{Stands, cfg as cfgIn, lent}
+use Rattle.endpoint.specs.Stands.{Stands, cfg as cfg_in, lent}
 use Rattle.endpoint.specs.declared.Endpoint.{Endpoint}
 use Rattle.endpoint.specs.declared.Refusal.{Refusal}
 use Rattle.endpoint.specs.declared.Refusal.TheVariants.{TooLong, ZeroTag, TooFar, NotThere as NoSuch, Closed, Full, TagThere, AllGiven}
@@ -67,13 +67,13 @@ fields p h = let (a, f) = and_parts _ _ h in let (b, _) = and_parts _ _ a in let
 
 module _ (x : Endpoint) (e : End) (s : Stands x e) where
   room_there : room_for e ≡ true → has_room x.table ≡ true
-  room_there h = ⊎_elim (λ r. r) (λ r. absurd (omega (arith, all_full (cfgIn x) (lent x) x.table s.table r, ltb-true (living e.conns) 16 h))) (cases_Bool (has_room x.table))
+  room_there h = ⊎_elim (λ r. r) (λ r. absurd (omega (arith, all_full (cfg_in x) (lent x) x.table s.table r, ltb-true (living e.conns) 16 h))) (cases_Bool (has_room x.table))
 
-  tag_free : (t : ℕ) → is_in t (tags e.conns) ≡ false → isInTable t x.table ≡ false
-  tag_free t h = ⊎_elim (λ r. false_true _ h (there (cfgIn x) (lent x) x.table s.table t r)) (λ r. r) (cases_Bool (isInTable t x.table))
+  tag_free : (t : ℕ) → is_in t (tags e.conns) ≡ false → in_table t x.table ≡ false
+  tag_free t h = ⊎_elim (λ r. false_true _ h (there (cfg_in x) (lent x) x.table s.table t r)) (λ r. r) (cases_Bool (in_table t x.table))
 
   open_taken : (t : ℕ) → eqb t 0 ≡ false → room_for e ≡ true → is_in t (tags e.conns) ≡ false → open_number x t ≡ 0
-  open_taken t z r f = chain (eqb t 0) (has_room x.table) (isInTable t x.table) z (room_there r) (tag_free t f)
+  open_taken t z r f = chain (eqb t 0) (has_room x.table) (in_table t x.table) z (room_there r) (tag_free t f)
     where
       chain : (a b c : Bool) → a ≡ false → b ≡ true → c ≡ false → ◌≡◌ {A = ℕ} (cond a 3 (cond (not b) 7 (cond c 8 0))) 0
       chain a b c p q r = rw (p, q, r) refl
@@ -87,7 +87,7 @@ module _ (x : Endpoint) (e : End) (s : Stands x e) where
       none (Some l) h = false_true false refl h
 
   hear_taken : (p : m.Packet) (t : ℕ) → readable p ≡ true → eqb t 0 ≡ false → is_in t (tags e.conns) ≡ false → is_dropped p e ≡ false → hear_number x p t ≡ 0
-  hear_taken p t h z f d = causes (ltb text_size (length p.text)) (zero_tag p) (needs x p) (eqb t 0) (too_far p) (has_room x.table) (isInTable t x.table) (fields p h).long (fields p h).zero z (fields p h).far (λ n. room_there (room n)) (tag_free t f)
+  hear_taken p t h z f d = causes (ltb text_size (length p.text)) (zero_tag p) (needs x p) (eqb t 0) (too_far p) (has_room x.table) (in_table t x.table) (fields p h).long (fields p h).zero z (fields p h).far (λ n. room_there (room n)) (tag_free t f)
     where
       causes : (a b n y c r u : Bool) → a ≡ false → b ≡ false → y ≡ false → c ≡ false → (n ≡ true → r ≡ true) → u ≡ false → ◌≡◌ {A = ℕ} (cond a 1 (cond (b || (n && y)) 3 (cond c 4 (cond (n && not r) 7 (cond (n && u) 8 0))))) 0
       causes a b true y c r u p q w k g v = rw (p, q, w, k, g refl, v) refl

@@ -91,15 +91,15 @@ module _ (x : Endpoint) (o : Who) (w : World) (s : Stands x (end o w)) (p : Pack
 
   module _ (h : None ≡ finds (Peer p.from) x.table) where
     -- the test of the model, and the world with one connection more
-    abbrev takes_it_lem : Bool
-    takes_it_lem = (end o w).listens && (not (is_in t w.drawn) && not (eqb t 0))
+    abbrev would_take : Bool
+    would_take = (end o w).listens && (not (is_in t w.drawn) && not (eqb t 0))
 
     abbrev one : World
     one = put o (added (new Half t p.from) (end o w)) (bare Yes t p.from ∷ []) (t ∷ []) w
 
-    ask_not : takes_it_lem ≡ false → After x [] o w (on_ask o p t (by_theirs p.from (end o w).conns) w)
+    ask_not : would_take ≡ false → After x [] o w (on_ask o p t (by_theirs p.from (end o w).conns) w)
     ask_not e = subst (λ (m : Found). After x [] o w (on_ask o p t m w)) (sym (no_peer x (end o w) s p.from h))
-        (subst (λ (v : World). After x [] o w v) (sym (cond-false takes_it_lem one w e)) (after_same x o w s))
+        (subst (λ (v : World). After x [] o w v) (sym (cond-false would_take one w e)) (after_same x o w s))
 
     pub ask_deaf : x.listens ≡ false → After x [] o w (on_ask o p t (by_theirs p.from (end o w).conns) w)
     ask_deaf n = ask_not (and_left (end o w).listens (not (is_in t w.drawn) && not (eqb t 0)) (sym s.listens ∙ n))
@@ -110,9 +110,9 @@ module _ (x : Endpoint) (o : Who) (w : World) (s : Stands x (end o w)) (p : Pack
     pub ask_new : (y : Endpoint) (l : ℕ) (b : Beside l x y) (z : Connection) → Grown x.table y.table z (Some l) → x.listens ≡ true → is_in t w.drawn ≡ false → (t ≡ 0 → ⊥) →
         (Sized x → Fresh (lent y l)) → ((mem : Rings) → Fresh mem → Stand1 (cfg x) z mem (new Half t p.from)) → (q : Packet) → q ≡ bare Yes t p.from → After y (q ∷ []) o w (on_ask o p t (by_theirs p.from (end o w).conns) w)
     ask_new y l b z g n d n0 fresh st q e =
-        let test : takes_it_lem ≡ true = and_from (end o w).listens (not (is_in t w.drawn) && not (eqb t 0)) (sym s.listens ∙ n) (and_from (not (is_in t w.drawn)) (not (eqb t 0)) (ap not d) (ap not (ne_eqb t 0 n0))) in
+        let test : would_take ≡ true = and_from (end o w).listens (not (is_in t w.drawn) && not (eqb t 0)) (sym s.listens ∙ n) (and_from (not (is_in t w.drawn)) (not (eqb t 0)) (ap not d) (ap not (ne_eqb t 0 n0))) in
         subst (λ (m : Found). After y (q ∷ []) o w (on_ask o p t m w)) (sym (no_peer x (end o w) s p.from h))
-        (subst (λ (v : World). After y (q ∷ []) o w v) (sym (cond-true takes_it_lem one w test))
+        (subst (λ (v : World). After y (q ∷ []) o w v) (sym (cond-true would_take one w test))
         (subst (λ (r : Packet). After y (q ∷ []) o w (put o (added (new Half t p.from) (end o w)) (r ∷ []) (t ∷ []) w)) e
         (after-put y (q ∷ []) o (added (new Half t p.from) (end o w)) (t ∷ []) w (one_more x (end o w) s l y b z (new Half t p.from) g fresh st))))
 

@@ -96,19 +96,19 @@ fits cfg (Forgets o t) s = true
 fits cfg (Hears o i t) s = true
 
 -- Of any test of what fits: what doesn't is refused, what does is done.
-module _ (cfg : Settings) (takes_it_lem : Ev → End → Bool) where
+module _ (cfg : Settings) (would_take : Ev → End → Bool) where
   abbrev pub done_if : Ev → End → End
-  done_if e s = cond (takes_it_lem e s) (done_by e s) s
+  done_if e s = cond (would_take e s) (done_by e s) s
 
   abbrev pub sent_if : Ev → End → List Packet
-  sent_if e s = cond (takes_it_lem e s) (sent_by cfg e s) []
+  sent_if e s = cond (would_take e s) (sent_by cfg e s) []
 
-  pub does_if : (o : Who) (e : Ev) → of_end o e ≡ true → (w : World) (s : End) → s ≡ end o w → takes_it_lem e s ≡ true → ((p : Who) (t : ℕ) → e ≡ Opens p t → is_in t w.drawn ≡ false) →
+  pub does_if : (o : Who) (e : Ev) → of_end o e ≡ true → (w : World) (s : End) → s ≡ end o w → would_take e s ≡ true → ((p : Who) (t : ℕ) → e ≡ Opens p t → is_in t w.drawn ≡ false) →
       (done_if e s ≡ end o (step cfg e w)) × (coming_to (other o) (step cfg e w) ≡ sent_if e s ++ coming_to (other o) w)
   does_if o e h w s q z f = let d = does_at cfg o w e h f in
       (cond-true _ (done_by e s) s z ∙ ap (done_by e) q ∙ sym d.becomes, d.sends ∙ ap (λ y. sent_by cfg e y ++ coming_to (other o) w) (sym q) ∙ ap (λ y. y ++ coming_to (other o) w) (sym (cond-true _ (sent_by cfg e s) [] z)))
 
-  pub refuses_if : (e : Ev) (s x : End) → takes_it_lem e s ≡ false → s ≡ x → (done_if e s ≡ x) × (sent_if e s ≡ [])
+  pub refuses_if : (e : Ev) (s x : End) → would_take e s ≡ false → s ≡ x → (done_if e s ≡ x) × (sent_if e s ≡ [])
   refuses_if e s x h q = (cond-false _ (done_by e s) s h ∙ q, cond-false _ (sent_by cfg e s) [] h)
 
 pub hears-at : (cfg : Settings) (o : Who) (p : Packet) (t : ℕ) (w : World) (s : End) → s ≡ end o w → is_in t w.drawn ≡ false →

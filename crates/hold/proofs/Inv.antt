@@ -15,8 +15,8 @@ use Rattle.hold.proofs.Truth.{Grows, grows_same, TrueOf, true_grows, Linked, Loc
 use Rattle.hold.proofs.Edits.{edit_grows, edit_linked}
 
 -- packets that are said are true
-asked-not_half : (c : Conn) → is_asked c.phase ≡ true → Asker c
-asked-not_half c e h = let r : is_half c.phase ≡ false = grind arith in false_true _ r h
+asked_not_half : (c : Conn) → is_asked c.phase ≡ true → Asker c
+asked_not_half c e h = let r : is_half c.phase ≡ false = grind arith in false_true _ r h
 
 pub open-settled : (h : Phase) → is_open h ≡ true → is_asked h ≡ false
 open-settled h e = grind arith
@@ -25,7 +25,7 @@ said_true : (cfg : Settings) (cs : List Conn) (p : Packet) → Said cfg cs p →
 said_true cfg cs p (yes_of c m a) = (c, m, (refl, refl, a))
 said_true cfg cs p (bye a b) = tt
 said_true cfg cs p (truthful c q m a k f t l) = subst (λ z. TrueOf cfg z p cs) (sym k) (c, m, (sym f, sym t, open-settled c.phase a), l)
-said_true cfg cs p (asking c q m a k f t) = subst (λ z. TrueOf cfg z p cs) (sym k) (c, m, sym f, asked-not_half c a, t)
+said_true cfg cs p (asking c q m a k f t) = subst (λ z. TrueOf cfg z p cs) (sym k) (c, m, sym f, asked_not_half c a, t)
 
 -- tags
 abbrev all_tags : World → List ℕ

@@ -205,6 +205,6 @@ goes_few Speak ws g = ⊎_elim (λ u. let a = up_to_few 16 Why.New ws u in omega
 goes_few Due ws u = let a = up_to_few 1 Why.Due ws u in omega arith
 goes_few Tick ws u = let a = up_to_few 1 Why.Clock ws u in omega arith
 
-pub at-most_seventeen : AtMostSeventeen
-at-most_seventeen start hs k n p now =
+pub at_most_seventeen : AtMostSeventeen
+at_most_seventeen start hs k n p now =
     let ts = texts k n (clock_after start hs) p now in let a = goes_few p (whys ts) (one_moment start hs k n p now) in let b = length-map ts (λ t. t.why) in omega arith

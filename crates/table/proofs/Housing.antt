@@ -5,7 +5,7 @@ use Rattle.std.proofs.lemmas.Bool.{and_right, cases_eq, cond-false, cond-true, e
 use Rattle.hold.specs.Code.{living}
 use Rattle.hold.specs.Conn.{Conn}
 use Rattle.hold.specs.Promise.{tags}
-use Rattle.hold.specs.World.{is_in as isTag, Found, NotThere, There, change, gone}
+use Rattle.hold.specs.World.{is_in as is_tag, Found, NotThere, There, change, gone}
 use Rattle.lanes.specs.Used.{Separate, is_in, without}
 use Rattle.table.specs.Housed.{Housed, forgot, held, left, none, seek}
 
@@ -203,13 +203,13 @@ lane_low l [] s m = absurd (false≢true m)
 lane_low l (k ∷ ks) s m = ⊎_elim {0, 0, 0} (λ h. subst (λ j. j < 16) (eqb-true k l h) s.0) (λ h. lane_low l ks s.2 h) (or_cases (eqb k l) (is_in l ks) m)
 
 -- the tag of whatever lives in a lane is one of the model's tags
-pub lane_tag : (P Q : ℕ → Conn → Type 0) (l t : ℕ) → ((c : Conn) → P l c → c.mine ≡ t) → ((c : Conn) → Q l c → c.mine ≡ t) → {ls : List ℕ} {cs : List Conn} → is_in l ls ≡ true → Housed P Q ls cs → isTag t (tags cs) ≡ true
-unfolding isTag tags
+pub lane_tag : (P Q : ℕ → Conn → Type 0) (l t : ℕ) → ((c : Conn) → P l c → c.mine ≡ t) → ((c : Conn) → Q l c → c.mine ≡ t) → {ls : List ℕ} {cs : List Conn} → is_in l ls ≡ true → Housed P Q ls cs → is_tag t (tags cs) ≡ true
+unfolding is_tag tags
 lane_tag P Q l t p q m none = absurd (false≢true m)
-lane_tag P Q l t p q m (forgot {c = c} {cs = cs} g h) = or_right (eqb c.mine t) (isTag t (tags cs)) (lane_tag P Q l t p q m h)
+lane_tag P Q l t p q m (forgot {c = c} {cs = cs} g h) = or_right (eqb c.mine t) (is_tag t (tags cs)) (lane_tag P Q l t p q m h)
 lane_tag P Q l t p q m (left {l = k} {ls = ls} {c = c} {cs = cs} g r h) = ⊎_elim {0, 0, 0}
-    (λ e. or_left (eqb c.mine t) (isTag t (tags cs)) (eq-eqb c.mine t (q c (subst (λ j. Q j c) (eqb-true k l e) r))))
-    (λ e. or_right (eqb c.mine t) (isTag t (tags cs)) (lane_tag P Q l t p q e h)) (or_cases (eqb k l) (is_in l ls) m)
+    (λ e. or_left (eqb c.mine t) (is_tag t (tags cs)) (eq-eqb c.mine t (q c (subst (λ j. Q j c) (eqb-true k l e) r))))
+    (λ e. or_right (eqb c.mine t) (is_tag t (tags cs)) (lane_tag P Q l t p q e h)) (or_cases (eqb k l) (is_in l ls) m)
 lane_tag P Q l t p q m (held {l = k} {ls = ls} {c = c} {cs = cs} r h) = ⊎_elim {0, 0, 0}
-    (λ e. or_left (eqb c.mine t) (isTag t (tags cs)) (eq-eqb c.mine t (p c (subst (λ j. P j c) (eqb-true k l e) r))))
-    (λ e. or_right (eqb c.mine t) (isTag t (tags cs)) (lane_tag P Q l t p q e h)) (or_cases (eqb k l) (is_in l ls) m)
+    (λ e. or_left (eqb c.mine t) (is_tag t (tags cs)) (eq-eqb c.mine t (p c (subst (λ j. P j c) (eqb-true k l e) r))))
+    (λ e. or_right (eqb c.mine t) (is_tag t (tags cs)) (lane_tag P Q l t p q e h)) (or_cases (eqb k l) (is_in l ls) m)

@@ -7,7 +7,7 @@ use Rattle.hold.specs.Code.{living}
 use Rattle.hold.specs.Conn.{Conn}
 use Rattle.hold.specs.Packet.{Settings}
 use Rattle.hold.specs.Promise.{tags}
-use Rattle.hold.specs.World.{is_in as isTag, by_tag, by_theirs, change, gone, is_asked}
+use Rattle.hold.specs.World.{is_in as is_tag, by_tag, by_theirs, change, gone, is_asked}
 use Rattle.connection.specs.Fields.{blank, has_peer, has_tag}
 use Rattle.connection.specs.Phases.{phase_of}
 use Rattle.connection.specs.Stand.{ActsAs, LeftOver, Rings, Stand1}
@@ -130,19 +130,19 @@ module _ (cfg : Settings) (mem : ℕ → Rings) (x : Table) {cs : List Conn} (h 
       none_there (Some l) b = absurd (false≢true (sym b))
 
   -- a tag that is there is one of the model's
-  pub there : (t : ℕ) → is_there t x ≡ true → isTag t (tags cs) ≡ true
+  pub there : (t : ℕ) → is_there t x ≡ true → is_tag t (tags cs) ≡ true
   there t e = ⊎_elim {0, 0, 0} (living-one (finds (Tag t) x) refl) (gone_one (finds (Gone t) x) refl) (or_cases (is_some (finds (Tag t) x)) (is_some (finds (Gone t) x)) e)
     where
-      mine_of : (l : ℕ) → (at x l).pairing.mine ≡ t → is_in l (used x.lanes) ≡ true → isTag t (tags cs) ≡ true
+      mine_of : (l : ℕ) → (at x l).pairing.mine ≡ t → is_in l (used x.lanes) ≡ true → is_tag t (tags cs) ≡ true
       mine_of l q m = lane_tag P Q l t (λ c s. ap (λ (d : Conn). d.mine) (sym s.is) ∙ q) (λ c s. sym s.mine ∙ q) m h
 
-      living-one : (o : Option ℕ) → finds (Tag t) x ≡ o → is_some o ≡ true → isTag t (tags cs) ≡ true
+      living-one : (o : Option ℕ) → finds (Tag t) x ≡ o → is_some o ≡ true → is_tag t (tags cs) ≡ true
       living-one None q b = absurd (false≢true b)
       living-one (Some l) q b =
           let f = seek_finds (λ k. has_tag t (at x k).pairing) l (used x.lanes) (sym q) in
           mine_of l (eqb-true (at x l).pairing.mine t (and_parts (eqb (at x l).pairing.mine t) (not (is_gone (at x l))) f.1).0) f.0
 
-      gone_one : (o : Option ℕ) → finds (Gone t) x ≡ o → is_some o ≡ true → isTag t (tags cs) ≡ true
+      gone_one : (o : Option ℕ) → finds (Gone t) x ≡ o → is_some o ≡ true → is_tag t (tags cs) ≡ true
       gone_one None q b = absurd (false≢true b)
       gone_one (Some l) q b =
           let f = seek_finds (λ k. meets (Gone t) (at x k)) l (used x.lanes) (sym q) in
