@@ -4,7 +4,7 @@
 # Proves what is needed (some minutes the first time), builds, and runs the program `pair` on the script that ships with it.
 run:
 	@echo "proving and building pair: some minutes the first time"
-	@cd crates/pair && { rt run 2> /dev/null || rt run; }
+	@cd crates/pair && { rt run < stdin 2> /dev/null || rt run < stdin; }
 
 # The gate: proves everything from nothing, tries the must-fail edits, runs programs and tests.
 test:
