@@ -6,6 +6,6 @@ run:
 	@echo "proving and building pair: some minutes the first time"
 	@cd crates/pair && { rt run < stdin 2> /dev/null || rt run < stdin; }
 
-# The gate: proves everything from nothing, tries the must-fail edits, runs programs and tests.
+# The gate: proves everything, tries the must-fail edits, runs programs and tests. What this machine passed before is kept.
 test:
 	@bash .ci/run

@@ -17,7 +17,7 @@ use Rattle.lent.specs.Sending.{free, most}
 use Rattle.table.proofs.Lodging.{all_full, there}
 use Rattle.table.specs.Search.{finds, has_room, is_there as in_table}
 use Rattle.table.specs.declared.Wanted.TheVariants.{Peer}
-use Rattle.endpoint.specs.AsCode.{Agrees, CodeTaking, close_fits, give_fits, is_dropped, is_ok, room_for_one, takes_it}
+use Rattle.endpoint.specs.AsCode.{Agrees, CodeTaking, close_fits, give_fits, is_dropped, is_ok, room_for, takes_it}
 use Rattle.endpoint.specs.Calls.{Broken, Finished, Gave, Opened, break_number, close_number, give_number, open_number}
 use Rattle.endpoint.specs.Hearing.{HeardAs, hear_number, needs, too_far, zero_tag}
 use Rattle.endpoint.specs.Refusals.{number}
@@ -66,13 +66,13 @@ fields p h = let (a, f) = and_parts _ _ h in let (b, _) = and_parts _ _ a in let
     near a b c p q r = rw (at_most a most p, at_most b most q, at_most c (most + 65536) r) refl
 
 module _ (x : Endpoint) (e : End) (s : Stands x e) where
-  room_there : room_for_one e ≡ true → has_room x.table ≡ true
+  room_there : room_for e ≡ true → has_room x.table ≡ true
   room_there h = ⊎_elim (λ r. r) (λ r. absurd (omega (arith, all_full (cfg_in x) (lent x) x.table s.table r, ltb-true (living e.conns) 16 h))) (cases_Bool (has_room x.table))
 
   tag_free : (t : ℕ) → is_in t (tags e.conns) ≡ false → in_table t x.table ≡ false
   tag_free t h = ⊎_elim (λ r. false_true _ h (there (cfg_in x) (lent x) x.table s.table t r)) (λ r. r) (cases_Bool (in_table t x.table))
 
-  open_taken : (t : ℕ) → eqb t 0 ≡ false → room_for_one e ≡ true → is_in t (tags e.conns) ≡ false → open_number x t ≡ 0
+  open_taken : (t : ℕ) → eqb t 0 ≡ false → room_for e ≡ true → is_in t (tags e.conns) ≡ false → open_number x t ≡ 0
   open_taken t z r f = chain (eqb t 0) (has_room x.table) (in_table t x.table) z (room_there r) (tag_free t f)
     where
       chain : (a b c : Bool) → a ≡ false → b ≡ true → c ≡ false → ◌≡◌ {A = ℕ} (cond a 3 (cond (not b) 7 (cond c 8 0))) 0
@@ -93,7 +93,7 @@ module _ (x : Endpoint) (e : End) (s : Stands x e) where
       causes a b true y c r u p q w k g v = rw (p, q, w, k, g refl, v) refl
       causes a b false y c r u p q w k g v = rw (p, q, k) refl
 
-      room : needs x p ≡ true → room_for_one e ≡ true
+      room : needs x p ≡ true → room_for e ≡ true
       room n = let k = takes_place_lem p n in grind (arith, nat_tests)
 
 not_false : (b : Bool) → not b ≡ true → b ≡ false
@@ -165,7 +165,7 @@ module _ (settings : Settings) where
   abbrev said : m.Packet → ℕ → End → List m.Packet
   said p t s = cond (is_dropped p s) [] (heard_by cfg p t p.kind s).sent
 
-  hears_so : (o : Who) (p : m.Packet) (t : ℕ) (w : World) (s : End) → s ≡ end o w → is_in t w.drawn ≡ false → (takes_place p (end o w) ≡ true → room_for_one s ≡ true) →
+  hears_so : (o : Who) (p : m.Packet) (t : ℕ) (w : World) (s : End) → s ≡ end o w → is_in t w.drawn ≡ false → (takes_place p (end o w) ≡ true → room_for s ≡ true) →
       (heard p t s ≡ end o (on_kind cfg o p t p.kind w)) × (coming_to (other o) (on_kind cfg o p t p.kind w) ≡ said p t s ++ coming_to (other o) w)
   hears_so o p t w s q n r = let (a, b) = hears-at cfg o p t w s q n in let k = kept in (cond-false _ s (heard_by cfg p t p.kind s).now k ∙ a, b ∙ ap (λ y. y ++ coming_to (other o) w) (sym (cond-false _ [] (heard_by cfg p t p.kind s).sent k)))
     where
@@ -174,9 +174,9 @@ module _ (settings : Settings) where
       stays false b h = refl
 
       kept : is_dropped p s ≡ false
-      kept = stays (takes_place p s) (room_for_one s) (λ h. r (subst (λ y. takes_place p y ≡ true) q h))
+      kept = stays (takes_place p s) (room_for s) (λ h. r (subst (λ y. takes_place p y ≡ true) q h))
 
-  drops : (p : m.Packet) (t : ℕ) (s x : End) → s ≡ x → takes_place p x ≡ true → room_for_one s ≡ false → (heard p t s ≡ x) × (said p t s ≡ [])
+  drops : (p : m.Packet) (t : ℕ) (s x : End) → s ≡ x → takes_place p x ≡ true → room_for s ≡ false → (heard p t s ≡ x) × (said p t s ≡ [])
   drops p t s x q h r = let k : is_dropped p s ≡ true = and_from _ _ (subst (λ y. takes_place p y ≡ true) (sym q) h) (ap not r) in (cond-true _ s (heard_by cfg p t p.kind s).now k ∙ q, cond-true _ [] (heard_by cfg p t p.kind s).sent k)
 
   gives_fit : (t : ℕ) (bs : List ℕ) (s x : End) (c : Conn) → s ≡ x → by_tag t x.conns ≡ There c → c.closed ≡ false → all_below 256 bs ≡ true → length c.given + length bs ≤ c.upto + settings.room → length c.given + length bs ≤ 2 ^ 62 →
@@ -216,8 +216,8 @@ module _ (settings : Settings) where
   more : (t p k : ℕ) (s x : End) (c : Conn) → s ≡ x → by_tag t x.conns ≡ There c → send_fits cfg p k (by_tag t s.conns) ≡ true → (c.upto ≤ p) × (k ≤ cfg.size)
   more t p k s x c q e f = let h = subst (λ z. send_fits cfg p k z ≡ true) (ap (λ z. by_tag t z.conns) q ∙ e) f in let (a, b) = and_parts (leb c.upto p) (leb k cfg.size) h in (leb-true _ _ a, leb-true _ _ b)
 
-  opens_fit : (t : ℕ) (s x : End) → s ≡ x → living x.conns < 16 → is_in t (tags x.conns) ≡ false → eqb t 0 ≡ false → ltb t (2 ^ 64) ≡ true → (not (eqb t 0) && ltb t (2 ^ 64) && room_for_one s && not (is_in t (tags s.conns))) ≡ true
-  opens_fit t s x q l f z b = subst (λ y. (not (eqb t 0) && ltb t (2 ^ 64) && room_for_one y && not (is_in t (tags y.conns))) ≡ true) (sym q) (and_from _ _ (and_from _ _ (and_from _ _ (ap not z) b) (lt-ltb (living x.conns) 16 l)) (ap not f))
+  opens_fit : (t : ℕ) (s x : End) → s ≡ x → living x.conns < 16 → is_in t (tags x.conns) ≡ false → eqb t 0 ≡ false → ltb t (2 ^ 64) ≡ true → (not (eqb t 0) && ltb t (2 ^ 64) && room_for s && not (is_in t (tags s.conns))) ≡ true
+  opens_fit t s x q l f z b = subst (λ y. (not (eqb t 0) && ltb t (2 ^ 64) && room_for y && not (is_in t (tags y.conns))) ≡ true) (sym q) (and_from _ _ (and_from _ _ (and_from _ _ (ap not z) b) (lt-ltb (living x.conns) 16 l)) (ap not f))
 
   code : Code cfg 16 End SameEnd
   code = record {
@@ -227,7 +227,7 @@ module _ (settings : Settings) where
     fits = takes_it cfg;
     call = done_if cfg (takes_it cfg);
     out = sent_if cfg (takes_it cfg);
-    room_for = room_for_one;
+    room_for = room_for;
     hears = heard;
     out_of_hears = said;
     does = does_if cfg (takes_it cfg);
@@ -245,4 +245,4 @@ module _ (settings : Settings) where
 
   pub code_taking : CodeTaking cfg
   unfolding code
-  code_taking = record { code = code; fits = λ _ _. refl; call = λ _ _. refl; out = λ _ _. refl; room_for = λ _. refl; hears = λ _ _ _. refl; out_of_hears = λ _ _ _. refl }
+  code_taking = record { code = code; fits = λ _ _. refl; call = λ _ _. refl; out = λ _ _. refl; room = λ _. refl; hears = λ _ _ _. refl; out_of_hears = λ _ _ _. refl }

@@ -22,13 +22,13 @@ close_fits NotThere = false
 close_fits (There c) = not c.closed
 
 -- fewer than sixteen live
-abbrev pub room_for_one : End → Bool
-room_for_one s = nat_lt (living s.conns) 16
+abbrev pub room_for : End → Bool
+room_for s = nat_lt (living s.conns) 16
 
 -- what this end takes
 abbrev pub takes_it : m.Settings → Ev → End → Bool
 takes_it cfg (Listens o b) s = true
-takes_it cfg (Opens o t) s = not (t == 0) && nat_lt t (2 ^ 64) && room_for_one s && not (is_in t (tags s.conns))
+takes_it cfg (Opens o t) s = not (t == 0) && nat_lt t (2 ^ 64) && room_for s && not (is_in t (tags s.conns))
 takes_it cfg (Due o t) s = true
 takes_it cfg (Gives o t bs) s = give_fits bs (by_tag t s.conns)
 takes_it cfg (Closes o t) s = close_fits (by_tag t s.conns)
@@ -40,7 +40,7 @@ takes_it cfg (Hears o i t) s = true
 
 -- an ask that wants a place where there is none is dropped; whatever else is heard
 abbrev pub is_dropped : m.Packet → End → Bool
-is_dropped p s = takes_place p s && not (room_for_one s)
+is_dropped p s = takes_place p s && not (room_for s)
 
 -- a code in the model's sense that takes just this, does the model's steps with it, and leaves all as it is with what it refuses
 pub record CodeTaking (cfg : m.Settings) : Type 0 where
@@ -48,7 +48,7 @@ pub record CodeTaking (cfg : m.Settings) : Type 0 where
   pub fits : (e : Ev) (s : End) → code.fits e s ≡ takes_it cfg e s
   pub call : (e : Ev) (s : End) → code.call e s ≡ cond (takes_it cfg e s) (done_by e s) s
   pub out : (e : Ev) (s : End) → code.out e s ≡ cond (takes_it cfg e s) (sent_by cfg e s) []
-  pub room_for : (s : End) → code.room_for s ≡ room_for_one s
+  pub room : (s : End) → code.room_for s ≡ room_for s
   pub hears : (p : m.Packet) (t : ℕ) (s : End) → code.hears p t s ≡ cond (is_dropped p s) s (heard_by cfg p t p.kind s).now
   pub out_of_hears : (p : m.Packet) (t : ℕ) (s : End) → code.out_of_hears p t s ≡ cond (is_dropped p s) [] (heard_by cfg p t p.kind s).sent
 
