@@ -2,11 +2,15 @@
 //! book keeps what users see of it.
 #![tactic(auto)]
 
+ghost use Rattle.std.specs.Prelude.{◌≡◌};
+ghost use Rattle.party.specs.declared.Fault.TheVariants.{Refused, Memory};
+
 mod calls;
 mod look;
 
 use endpoint::{Endpoint, Refusal};
 use ledger::book::Book;
+use std::alloc::AllocError;
 
 #[derive(Drop)]
 pub struct Party<'m> {
@@ -23,4 +27,20 @@ pub enum Fault {
     Unfit,
     /// There is no memory to write it down.
     Memory,
+}
+
+impl From<Refusal> for Fault {
+    ghost from_gives = { λ refusal fault. fault ≡ Refused refusal };
+
+    fn from(refusal: Refusal) -> Fault {
+        Fault::Refused(refusal)
+    }
+}
+
+impl From<AllocError> for Fault {
+    ghost from_gives = { λ _ fault. fault ≡ Memory };
+
+    fn from(_error: AllocError) -> Fault {
+        Fault::Memory
+    }
 }
