@@ -151,7 +151,7 @@ cleans_more h x xs a f = go x.clean refl
 
 -- only clean rows are measured
 pub measured-cleans : (upto now : ℕ) (m : Option Measures) (xs : List Row) → measured_by upto now m xs ≡ measured_by upto now m (cleans xs)
-unfolding measured_by cleans
+unfolding cleans
 measured-cleans upto now m [] = refl
 measured-cleans upto now m (x ∷ xs) =
     cond_both x.clean (x ∷ cleans xs) (cleans xs) (λ z. measured_by upto now (measured_one upto now m x) xs ≡ measured_by upto now m z)

@@ -53,10 +53,7 @@ pub fn measured(before: Option<Measures>, ticks: u64) -> Option<Measures>
     ensures { result ≡ spec.measured before ticks }
 {
     let round = ticks.min(u32::MAX as u64) as u32;
-    match before {
-        None => Some(Measures::first(round)),
-        Some(m) => Some(m.later(round)),
-    }
+    Some(before.map_or_else(|| Measures::first(round), |m| m.later(round)))
 }
 
 /// The waiting time set anew; before the first measure, the shortest.
@@ -64,10 +61,7 @@ pub fn waiting_time(measures: Option<Measures>) -> u64
     ensures exact { result ≡ spec.waiting measures }
     ensures within { spec.Timely result }
 {
-    match measures {
-        None => SHORTEST,
-        Some(m) => m.time(),
-    }
+    measures.map_or(SHORTEST, |m| m.time())
 }
 
 /// The waiting time after a text by the clock.
