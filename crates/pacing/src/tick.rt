@@ -59,11 +59,11 @@ impl Paced {
         let next = tick_after(now, 1);
         let forget = tick_after(self.clock.touched, QUIET).max(next);
         let speak = tick_after(self.clock.since, self.clock.wait).max(next);
-        match (self.numbers.finished(), self.numbers.owes()) {
-            (true, true) => Some(forget.min(speak)),
-            (true, false) => Some(forget),
-            (false, true) => Some(speak),
-            (false, false) => None,
+        let forget = self.numbers.finished().then_some(forget);
+        let speak = self.numbers.owes().then_some(speak);
+        match (forget, speak) {
+            (Some(forget), Some(speak)) => Some(forget.min(speak)),
+            _ => forget.or(speak),
         }
     }
 }
