@@ -1,5 +1,5 @@
 -- Sixteen rows are enough: they tell whether fewer than sixteen texts are under way, and give the same measures, as all rows would.
-use Rattle.std.specs.Prelude.{◌≡◌, ℕ, ◌<◌, ◌≤◌, max, cond, not, ◌⊎◌, List, [], ◌∷◌, ◌++◌, map, length, replicate, Option, nat_lt}
+use Rattle.std.specs.Prelude.{◌≡◌, ℕ, ◌<◌, ◌≤◌, max, not, ◌⊎◌, List, [], ◌∷◌, ◌++◌, map, length, replicate, Option, nat_lt, filter}
 use Rattle.timer.specs.declared.measures.Measures.{Measures}
 use Rattle.timer.specs.declared.flight.Row.{Row}
 use Rattle.timer.specs.Flight.{blank, resent, settled, sent_rows, full, measured_by}
@@ -19,9 +19,8 @@ pub data Move : Type 0 where
   Confirms : ℕ → Move
 
 -- the rows that aren't confirmed
-unfoldable pub beyond : ℕ → List Row → List Row
-beyond u [] = []
-beyond u (r ∷ rs) = cond (nat_lt u r.end) (r ∷ beyond u rs) (beyond u rs)
+abbrev pub beyond : ℕ → List Row → List Row
+beyond u rs = filter (λ r. nat_lt u r.end) rs
 
 abbrev pub moved : Move → Way → Way
 moved (Sends p e now) w = record { upto = w.upto; high = max w.high e; rows = map (resent p e) w.rows ++ record { place = p; end = e; time = now; clean = not (nat_lt p w.high) } ∷ [] }
