@@ -37,6 +37,8 @@ impl Flight {
         upto < self.rows[0].end
     }
 
+    // `place` and `end` stay two numbers: a `Range` would be taken apart again where a `Row` is made of it.
+
     /// The rows when the bytes from `place` to `end` are sent: those that have one of them aren't clean any more.
     pub fn resent(self, place: u64, end: u64) -> Flight
         ensures { result.rows ≡ map (spec.resent place end) self.rows }

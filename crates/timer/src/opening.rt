@@ -14,6 +14,8 @@ pub fn tick_after(tick: u64, more: u64) -> u64
     tick.saturating_add(more)
 }
 
+// `start` and `now` stay two ticks below: a struct of both would be made anew for each call.
+
 /// Whether an ask or yes that was first sent at `start` is sent again now.
 pub fn repeats(start: u64, now: u64) -> bool
     ensures { result ≡ spec.repeats start now }
