@@ -23,9 +23,9 @@ abbrev pub beyond : ℕ → List Row → List Row
 beyond u rs = filter (λ r. nat_lt u r.end) rs
 
 abbrev pub moved : Move → Way → Way
-moved (Sends p e now) w = record { upto = w.upto; high = max w.high e; rows = map (resent p e) w.rows ++ record { place = p; end = e; time = now; clean = not (nat_lt p w.high) } ∷ [] }
-moved Clears w = record { upto = w.upto; high = w.high; rows = [] }
-moved (Confirms u) w = record { upto = max w.upto u; high = w.high; rows = beyond (max w.upto u) w.rows }
+moved (Sends p e now) w = record w { high = max w.high e; rows = map (resent p e) w.rows ++ record { place = p; end = e; time = now; clean = not (nat_lt p w.high) } ∷ [] }
+moved Clears w = record w { rows = [] }
+moved (Confirms u) w = record w { upto = max w.upto u; rows = beyond (max w.upto u) w.rows }
 
 -- sixteen rows at the same moves
 abbrev pub held : Move → Way → List Row → List Row

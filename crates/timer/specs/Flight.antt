@@ -9,7 +9,7 @@ abbrev pub blank : Row
 blank = record { place = 0; end = 0; time = 0; clean = false }
 
 abbrev pub unclean : Row → Row
-unclean r = record { place = r.place; end = r.end; time = r.time; clean = false }
+unclean r = record r { clean = false }
 
 -- whether a row has a byte in common with the bytes from p to e
 abbrev pub shares : ℕ → ℕ → Row → Bool
