@@ -12,7 +12,7 @@ use Rattle.pacing.specs.declared.numbers.Numbers.{Numbers}
 use Rattle.pacing.specs.declared.numbers.Why.{Why}
 use Rattle.pacing.specs.declared.clock.Clock.{Clock}
 use Rattle.pacing.specs.declared.next.Pending.{Pending}
-use Rattle.pacing.specs.declared.next.Pending.TheVariants.{Nothing, Answer, AnswerThenSpeak, Speak, Due, Tick}
+use Rattle.pacing.specs.declared.next.Pending.TheVariants.{Answer, AnswerThenSpeak, Speak, Due, Tick}
 use Rattle.pacing.specs.Text.{end_of, is_last, due}
 use Rattle.pacing.specs.Clock.{restarted, sent_text, saying, by_clock, with_bytes, with_last, is_clock}
 use Rattle.pacing.specs.Next.{new_of, new_text, next_text, up_to_date, after}
@@ -96,42 +96,42 @@ due_then n c now o e = ⊎_elim bytes bare (cases_lt (due n Why.Due).place (end_
     bare l = new_with n (sent_text n (due n Why.Due) now c) c.sent (c.ended || is_last n (due n Why.Due)) c.flight.rows (bare-sent n c (due n Why.Due) now l) (sent-ended n c (due n Why.Due) now) (bare_rows n c (due n Why.Due) now refl l) ∙ (grind (arith, nat_tests))
 
 -- nothing more goes out
-silent_from : (k : ℕ) (n : Numbers) (c : Clock) (p : Pending) (now : ℕ) → next_text n c p now ≡ None → texts k n c p now ≡ []
+silent_from : (k : ℕ) (n : Numbers) (c : Clock) (p : Option Pending) (now : ℕ) → next_text n c p now ≡ None → texts k n c p now ≡ []
 unfolding texts
 silent_from zero n c p now e = refl
 silent_from (suc k) n c p now e = ap (λ o. list_from o (λ t. texts k n (sent_text n t now c) (after p) now)) e
 
-next_is : (k : ℕ) (n : Numbers) (c : Clock) (p : Pending) (now : ℕ) (t : Choice) → next_text n c p now ≡ Some t → texts (suc k) n c p now ≡ t ∷ texts k n (sent_text n t now c) (after p) now
+next_is : (k : ℕ) (n : Numbers) (c : Clock) (p : Option Pending) (now : ℕ) (t : Choice) → next_text n c p now ≡ Some t → texts (suc k) n c p now ≡ t ∷ texts k n (sent_text n t now c) (after p) now
 unfolding texts
 next_is k n c p now t e = ap (λ o. list_from o (λ t. texts k n (sent_text n t now c) (after p) now)) e
 
-next_none : (n : Numbers) (c : Clock) (now : ℕ) → new_text n c ≡ None → up_to_date n c ≡ true → next_text n c Speak now ≡ None
+next_none : (n : Numbers) (c : Clock) (now : ℕ) → new_text n c ≡ None → up_to_date n c ≡ true → next_text n c (Some Speak) now ≡ None
 next_none n c now e u = grind (arith, nat_tests)
 
-next-new : (n : Numbers) (c : Clock) (now : ℕ) (t : Choice) → next_text n c Speak now ≡ Some t → up_to_date n c ≡ true → new_text n c ≡ Some t
+next-new : (n : Numbers) (c : Clock) (now : ℕ) (t : Choice) → next_text n c (Some Speak) now ≡ Some t → up_to_date n c ≡ true → new_text n c ≡ Some t
 next-new n c now t e u = grind (arith, nat_tests)
 
 -- a new text, and those after it
 abbrev After : ℕ → Numbers → Clock → ℕ → Type 0
-After k n c now = UpTo (16 - above n.upto c.flight.rows) Why.New (whys (texts k n c Speak now))
+After k n c now = UpTo (16 - above n.upto c.flight.rows) Why.New (whys (texts k n c (Some Speak) now))
 
-new_more : (k : ℕ) (n : Numbers) (c : Clock) (now : ℕ) (t : Choice) → Flying c → new_text n c ≡ Some t → After k n (sent_text n t now c) now → UpTo (16 - above n.upto c.flight.rows) Why.New (whys (t ∷ texts k n (sent_text n t now c) Speak now))
+new_more : (k : ℕ) (n : Numbers) (c : Clock) (now : ℕ) (t : Choice) → Flying c → new_text n c ≡ Some t → After k n (sent_text n t now c) now → UpTo (16 - above n.upto c.flight.rows) Why.New (whys (t ∷ texts k n (sent_text n t now c) (Some Speak) now))
 new_more k n c now t o e (j, l, q) = ⊎_elim bytes last (new_then n c t now e)
   where
     few : above n.upto c.flight.rows < 16
     few = let f = (new-free n c t e).0 in let a = full-above n.upto c.flight.rows o in grind (arith, nat_tests)
 
-    bytes : (t.place < end_of n t) × (n.upto < end_of n t) → UpTo (16 - above n.upto c.flight.rows) Why.New (whys (t ∷ texts k n (sent_text n t now c) Speak now))
+    bytes : (t.place < end_of n t) × (n.upto < end_of n t) → UpTo (16 - above n.upto c.flight.rows) Why.New (whys (t ∷ texts k n (sent_text n t now c) (Some Speak) now))
     bytes (a, b) =
         let w = (new-free n c t e).1 in
         let r = ap (above n.upto) (sent-rows n c t now (ap is_clock w) a) ∙ above-sent n.upto c.high t.place (end_of n t) now c.flight.rows o b in
         let h = few in
         (suc j, omega arith, cc)
 
-    last : new_text n (sent_text n t now c) ≡ None → UpTo (16 - above n.upto c.flight.rows) Why.New (whys (t ∷ texts k n (sent_text n t now c) Speak now))
+    last : new_text n (sent_text n t now c) ≡ None → UpTo (16 - above n.upto c.flight.rows) Why.New (whys (t ∷ texts k n (sent_text n t now c) (Some Speak) now))
     last z =
         let w = (new-free n c t e).1 in
-        let r = ap whys (silent_from k n (sent_text n t now c) Speak now (next_none n (sent_text n t now c) now z (says_all n c t now))) in
+        let r = ap whys (silent_from k n (sent_text n t now c) (Some Speak) now (next_none n (sent_text n t now c) now z (says_all n c t now))) in
         let h = few in
         (1, omega arith, cc)
 
@@ -139,14 +139,14 @@ new_more k n c now t o e (j, l, q) = ⊎_elim bytes last (new_then n c t now e)
 news : (k : ℕ) (n : Numbers) (c : Clock) (now : ℕ) → Flying c → up_to_date n c ≡ true → After k n c now
 unfolding texts
 news zero n c now o u = (0, omega arith, refl)
-news (suc k) n c now o u = go (next_text n c Speak now) refl (λ t. news k n (sent_text n t now c) now (flying_sent n t now c o) (says_all n c t now))
+news (suc k) n c now o u = go (next_text n c (Some Speak) now) refl (λ t. news k n (sent_text n t now c) now (flying_sent n t now c o) (says_all n c t now))
   where
-    go : (r : Option Choice) → next_text n c Speak now ≡ r → ((t : Choice) → After k n (sent_text n t now c) now) → After (suc k) n c now
-    go None e more = (0, omega arith, ap whys (silent_from (suc k) n c Speak now e))
-    go (Some t) e more = let (j, l, q) = new_more k n c now t o (next-new n c now t e u) (more t) in (j, l, ap whys (next_is k n c Speak now t e) ∙ q)
+    go : (r : Option Choice) → next_text n c (Some Speak) now ≡ r → ((t : Choice) → After k n (sent_text n t now c) now) → After (suc k) n c now
+    go None e more = (0, omega arith, ap whys (silent_from (suc k) n c (Some Speak) now e))
+    go (Some t) e more = let (j, l, q) = new_more k n c now t o (next-new n c now t e u) (more t) in (j, l, ap whys (next_is k n c (Some Speak) now t e) ∙ q)
 
 -- a text, and nothing after it
-single : (k : ℕ) (n : Numbers) (c : Clock) (p : Pending) (now : ℕ) (why : Why) → after p ≡ Nothing → ((t : Choice) → next_text n c p now ≡ Some t → t.why ≡ why) → UpTo 1 why (whys (texts k n c p now))
+single : (k : ℕ) (n : Numbers) (c : Clock) (p : Option Pending) (now : ℕ) (why : Why) → after p ≡ None → ((t : Choice) → next_text n c p now ≡ Some t → t.why ≡ why) → UpTo 1 why (whys (texts k n c p now))
 unfolding texts
 single zero n c p now why a f = (0, omega arith, refl)
 single (suc k) n c p now why a f = go (next_text n c p now) refl
@@ -155,41 +155,41 @@ single (suc k) n c p now why a f = go (next_text n c p now) refl
     go None e = (0, omega arith, ap whys (silent_from (suc k) n c p now e))
     go (Some t) e = let r = ap whys (next_is k n c p now t e) in let w = f t e in
         let z = ap (λ x. whys (texts k n (sent_text n t now c) x now)) a in
-        let s = ap whys (silent_from k n (sent_text n t now c) Nothing now (silent n (sent_text n t now c) now).0) in (1, omega arith, cc)
+        let s = ap whys (silent_from k n (sent_text n t now c) None now (silent n (sent_text n t now c) now).0) in (1, omega arith, cc)
 
 -- after the answer, new texts
-answer_news : (k : ℕ) (n : Numbers) (c : Clock) (now : ℕ) → Flying c → Goes AnswerThenSpeak (whys (texts k n c AnswerThenSpeak now))
+answer_news : (k : ℕ) (n : Numbers) (c : Clock) (now : ℕ) → Flying c → Goes (Some AnswerThenSpeak) (whys (texts k n c (Some AnswerThenSpeak) now))
 unfolding texts
 answer_news zero n c now o = inl refl
-answer_news (suc k) n c now o = go (next_text n c AnswerThenSpeak now) refl
+answer_news (suc k) n c now o = go (next_text n c (Some AnswerThenSpeak) now) refl
   where
-    go : (r : Option Choice) → next_text n c AnswerThenSpeak now ≡ r → Goes AnswerThenSpeak (whys (texts (suc k) n c AnswerThenSpeak now))
-    go None e = inl (ap whys (silent_from (suc k) n c AnswerThenSpeak now e))
+    go : (r : Option Choice) → next_text n c (Some AnswerThenSpeak) now ≡ r → Goes (Some AnswerThenSpeak) (whys (texts (suc k) n c (Some AnswerThenSpeak) now))
+    go None e = inl (ap whys (silent_from (suc k) n c (Some AnswerThenSpeak) now e))
     go (Some t) e = let (j, l, q) = news k n (sent_text n t now c) now (flying_sent n t now c o) (says_all n c t now) in
-        let r = ap whys (next_is k n c AnswerThenSpeak now t e) in let w : t.why ≡ Why.Answer = grind (arith, nat_tests) in
-        inr (whys (texts k n (sent_text n t now c) Speak now), cc, (j, omega arith, q))
+        let r = ap whys (next_is k n c (Some AnswerThenSpeak) now t e) in let w : t.why ≡ Why.Answer = grind (arith, nat_tests) in
+        inr (whys (texts k n (sent_text n t now c) (Some Speak) now), cc, (j, omega arith, q))
 
 -- new texts, or else the due one
-new_or_due : (k : ℕ) (n : Numbers) (c : Clock) (now : ℕ) → Flying c → Goes Speak (whys (texts k n c Speak now))
+new_or_due : (k : ℕ) (n : Numbers) (c : Clock) (now : ℕ) → Flying c → Goes (Some Speak) (whys (texts k n c (Some Speak) now))
 unfolding texts
 new_or_due zero n c now o = inl (0, omega arith, refl)
-new_or_due (suc k) n c now o = go (next_text n c Speak now) refl (new_text n c) refl
+new_or_due (suc k) n c now o = go (next_text n c (Some Speak) now) refl (new_text n c) refl
   where
-    go : (r : Option Choice) → next_text n c Speak now ≡ r → (m : Option Choice) → new_text n c ≡ m → Goes Speak (whys (texts (suc k) n c Speak now))
-    go None e m f = inl (0, omega arith, ap whys (silent_from (suc k) n c Speak now e))
+    go : (r : Option Choice) → next_text n c (Some Speak) now ≡ r → (m : Option Choice) → new_text n c ≡ m → Goes (Some Speak) (whys (texts (suc k) n c (Some Speak) now))
+    go None e m f = inl (0, omega arith, ap whys (silent_from (suc k) n c (Some Speak) now e))
     go (Some t) e (Some x) f = let (j, l, q) = new_more k n c now x o f (news k n (sent_text n x now c) now (flying_sent n x now c o) (says_all n c x now)) in
-        let same : next_text n c Speak now ≡ Some x = grind (arith, nat_tests) in
-        inl (j, omega arith, ap whys (next_is k n c Speak now x same) ∙ q)
-    go (Some t) e None f = let same : next_text n c Speak now ≡ Some (due n Why.Due) = grind (arith, nat_tests) in
-        inr (ap whys (next_is k n c Speak now (due n Why.Due) same) ∙ ap (λ ts. whys (due n Why.Due ∷ ts)) (silent_from k n (sent_text n (due n Why.Due) now c) Speak now (next_none n (sent_text n (due n Why.Due) now c) now (due_then n c now o f) (says_all n c (due n Why.Due) now))))
+        let same : next_text n c (Some Speak) now ≡ Some x = grind (arith, nat_tests) in
+        inl (j, omega arith, ap whys (next_is k n c (Some Speak) now x same) ∙ q)
+    go (Some t) e None f = let same : next_text n c (Some Speak) now ≡ Some (due n Why.Due) = grind (arith, nat_tests) in
+        inr (ap whys (next_is k n c (Some Speak) now (due n Why.Due) same) ∙ ap (λ ts. whys (due n Why.Due ∷ ts)) (silent_from k n (sent_text n (due n Why.Due) now c) (Some Speak) now (next_none n (sent_text n (due n Why.Due) now c) now (due_then n c now o f) (says_all n c (due n Why.Due) now))))
 
-goes : (k : ℕ) (n : Numbers) (c : Clock) (p : Pending) (now : ℕ) → Flying c → Goes p (whys (texts k n c p now))
-goes k n c Nothing now o = ap whys (silent_from k n c Nothing now (silent n c now).0)
-goes k n c Answer now o = single k n c Answer now Why.Answer refl (λ t e. grind (arith, nat_tests))
-goes k n c AnswerThenSpeak now o = answer_news k n c now o
-goes k n c Speak now o = new_or_due k n c now o
-goes k n c Due now o = single k n c Due now Why.Due refl (λ t e. grind (arith, nat_tests))
-goes k n c Tick now o = single k n c Tick now Why.Clock refl (λ t e. grind (arith, nat_tests))
+goes : (k : ℕ) (n : Numbers) (c : Clock) (p : Option Pending) (now : ℕ) → Flying c → Goes p (whys (texts k n c p now))
+goes k n c None now o = ap whys (silent_from k n c None now (silent n c now).0)
+goes k n c (Some Answer) now o = single k n c (Some Answer) now Why.Answer refl (λ t e. grind (arith, nat_tests))
+goes k n c (Some AnswerThenSpeak) now o = answer_news k n c now o
+goes k n c (Some Speak) now o = new_or_due k n c now o
+goes k n c (Some Due) now o = single k n c (Some Due) now Why.Due refl (λ t e. grind (arith, nat_tests))
+goes k n c (Some Tick) now o = single k n c (Some Tick) now Why.Clock refl (λ t e. grind (arith, nat_tests))
 
 pub one_moment : OneMoment
 one_moment start hs k n p now = goes k n (clock_after start hs) p now (flying start hs)
@@ -197,13 +197,13 @@ one_moment start hs k n p now = goes k n (clock_after start hs) p now (flying st
 up_to_few : (m : ℕ) (why : Why) (ws : List Why) → UpTo m why ws → length ws ≤ m
 up_to_few m why ws (j, l, e) = let a = ap length e in let b = length-replicate j why in omega arith
 
-goes_few : (p : Pending) (ws : List Why) → Goes p ws → length ws ≤ 17
-goes_few Nothing ws e = let a = ap length e in omega arith
-goes_few Answer ws u = let a = up_to_few 1 Why.Answer ws u in omega arith
-goes_few AnswerThenSpeak ws g = ⊎_elim (λ e. let a = ap length e in omega arith) (λ (vs, e, u). let a = ap length e in let b = up_to_few 16 Why.New vs u in omega arith) g
-goes_few Speak ws g = ⊎_elim (λ u. let a = up_to_few 16 Why.New ws u in omega arith) (λ e. let a = ap length e in omega arith) g
-goes_few Due ws u = let a = up_to_few 1 Why.Due ws u in omega arith
-goes_few Tick ws u = let a = up_to_few 1 Why.Clock ws u in omega arith
+goes_few : (p : Option Pending) (ws : List Why) → Goes p ws → length ws ≤ 17
+goes_few None ws e = let a = ap length e in omega arith
+goes_few (Some Answer) ws u = let a = up_to_few 1 Why.Answer ws u in omega arith
+goes_few (Some AnswerThenSpeak) ws g = ⊎_elim (λ e. let a = ap length e in omega arith) (λ (vs, e, u). let a = ap length e in let b = up_to_few 16 Why.New vs u in omega arith) g
+goes_few (Some Speak) ws g = ⊎_elim (λ u. let a = up_to_few 16 Why.New ws u in omega arith) (λ e. let a = ap length e in omega arith) g
+goes_few (Some Due) ws u = let a = up_to_few 1 Why.Due ws u in omega arith
+goes_few (Some Tick) ws u = let a = up_to_few 1 Why.Clock ws u in omega arith
 
 pub at_most_seventeen : AtMostSeventeen
 at_most_seventeen start hs k n p now =

@@ -10,14 +10,14 @@ use Rattle.pacing.specs.declared.numbers.Numbers.{Numbers}
 use Rattle.pacing.specs.declared.numbers.Why.{Why}
 use Rattle.pacing.specs.declared.clock.Clock.{Clock}
 use Rattle.pacing.specs.declared.next.Pending.{Pending}
-use Rattle.pacing.specs.declared.next.Pending.TheVariants.{Nothing, Answer, AnswerThenSpeak, Speak, Due, Tick}
+use Rattle.pacing.specs.declared.next.Pending.TheVariants.{Answer, AnswerThenSpeak, Speak, Due, Tick}
 use Rattle.pacing.specs.Text.{end_of, due}
 use Rattle.pacing.specs.Clock.{restarted, sent_text, heard, is_clock, by_clock}
 use Rattle.pacing.specs.Next.{new_text, next_text}
 use Rattle.pacing.specs.Promises.{Happens, Came, Opened, Owing, Heard, Sent, happened, clock_after}
 use Rattle.pacing.specs.UnderWay.{move_by, confirmed, cleared, sending, moves_of, ByRule, Ruled, RowsEnough, NewWhenFew}
 
-speaks_either : (n : Numbers) (c : Clock) (now : ℕ) (t : Choice) → next_text n c Speak now ≡ Some t → (new_text n c ≡ Some t) ⊎ (t ≡ due n Why.Due)
+speaks_either : (n : Numbers) (c : Clock) (now : ℕ) (t : Choice) → next_text n c (Some Speak) now ≡ Some t → (new_text n c ≡ Some t) ⊎ (t ≡ due n Why.Due)
 speaks_either n c now t e = go (new_text n c) refl
   where
     go : (o : Option Choice) → new_text n c ≡ o → (new_text n c ≡ Some t) ⊎ (t ≡ due n Why.Due)
@@ -28,13 +28,13 @@ new_begins : (n : Numbers) (c : Clock) (t : Choice) → new_text n c ≡ Some t 
 new_begins n c t e = (grind (arith, nat_tests), grind (arith, nat_tests), grind (arith, nat_tests))
 
 -- where it begins: at the first byte that isn't confirmed, or it is new
-begins : (n : Numbers) (c : Clock) (p : Pending) (now : ℕ) (t : Choice) → next_text n c p now ≡ Some t → (t.place ≡ n.upto) ⊎ ((n.upto ≤ t.place) × (full n.upto c.flight.rows ≡ false) × (is_clock t.why ≡ false))
-begins n c Nothing now t e = grind (arith, nat_tests)
-begins n c Answer now t e = inl (grind (arith, nat_tests))
-begins n c AnswerThenSpeak now t e = inl (grind (arith, nat_tests))
-begins n c Speak now t e = ⊎_elim (λ f. inr (new_begins n c t f)) (λ q. inl (ap (λ x. x.place) q)) (speaks_either n c now t e)
-begins n c Due now t e = inl (grind (arith, nat_tests))
-begins n c Tick now t e = inl (grind (arith, nat_tests))
+begins : (n : Numbers) (c : Clock) (p : Option Pending) (now : ℕ) (t : Choice) → next_text n c p now ≡ Some t → (t.place ≡ n.upto) ⊎ ((n.upto ≤ t.place) × (full n.upto c.flight.rows ≡ false) × (is_clock t.why ≡ false))
+begins n c None now t e = grind (arith, nat_tests)
+begins n c (Some Answer) now t e = inl (grind (arith, nat_tests))
+begins n c (Some AnswerThenSpeak) now t e = inl (grind (arith, nat_tests))
+begins n c (Some Speak) now t e = ⊎_elim (λ f. inr (new_begins n c t f)) (λ q. inl (ap (λ x. x.place) q)) (speaks_either n c now t e)
+begins n c (Some Due) now t e = inl (grind (arith, nat_tests))
+begins n c (Some Tick) now t e = inl (grind (arith, nat_tests))
 
 -- a clock has the rows and the mark of some moves
 record Has (c : Clock) (ms : List Move) : Type 0 where
@@ -84,13 +84,13 @@ cleared_upto : (t : Choice) (ms : List Move) → (way_after (cleared t ms)).upto
 unfolding way_after
 cleared_upto t ms = cond_both (is_clock t.why) (Clears ∷ ms) ms (λ x. (way_after x).upto ≡ (way_after ms).upto) (λ _. refl) (λ _. refl)
 
-allowed : (n : Numbers) (c : Clock) (p : Pending) (now : ℕ) (t : Choice) (ms : List Move) → Has c ms → n.upto ≡ (way_after ms).upto → next_text n c p now ≡ Some t → t.place < end_of n t → Allowed (Sends t.place (end_of n t) now) (way_after (cleared t ms))
+allowed : (n : Numbers) (c : Clock) (p : Option Pending) (now : ℕ) (t : Choice) (ms : List Move) → Has c ms → n.upto ≡ (way_after ms).upto → next_text n c p now ≡ Some t → t.place < end_of n t → Allowed (Sends t.place (end_of n t) now) (way_after (cleared t ms))
 allowed n c p now t ms h q e l = ⊎_elim
     (λ a. let u = cleared_upto t ms in (omega arith, l, inl (a ∙ q ∙ sym u)))
     (λ (a, f, k). let u = cleared_upto t ms in (omega arith, l, inr (subst (λ x. length (way_after x).rows < 16) (ap (λ b. cond b (Clears ∷ ms) ms) (sym k)) (few n.upto c ms h q f))))
     (begins n c p now t e)
 
-has-sent : (n : Numbers) (c : Clock) (p : Pending) (now : ℕ) (t : Choice) (ms : List Move) → Has c ms → n.upto ≡ (way_after ms).upto → next_text n c p now ≡ Some t → Has (sent_text n t now c) (sending n t now (cleared t ms))
+has-sent : (n : Numbers) (c : Clock) (p : Option Pending) (now : ℕ) (t : Choice) (ms : List Move) → Has c ms → n.upto ≡ (way_after ms).upto → next_text n c p now ≡ Some t → Has (sent_text n t now c) (sending n t now (cleared t ms))
 has-sent n c p now t ms h q e = go (ltb t.place (end_of n t)) refl
   where
     go : (b : Bool) → ltb t.place (end_of n t) ≡ b → Has (sent_text n t now c) (cond b (Sends t.place (end_of n t) now ∷ cleared t ms) (cleared t ms))

@@ -40,7 +40,7 @@ owes-speaks n start hs now o l = let t = always_timely start hs in grind (arith,
 pub clock_carries : ClockCarries
 clock_carries n c now t l e = grind (arith, nat_tests)
 
-tick_why : (n : Numbers) (c : Clock) (now : ℕ) (t : Choice) → next_text n c Pending.Tick now ≡ Some t → t.why ≡ Why.Clock
+tick_why : (n : Numbers) (c : Clock) (now : ℕ) (t : Choice) → next_text n c (Some Pending.Tick) now ≡ Some t → t.why ≡ Why.Clock
 tick_why n c now t e = grind (arith, nat_tests)
 
 clock_doubles : (n : Numbers) (c : Clock) (now : ℕ) (t : Choice) → t.why ≡ Why.Clock → (sent_text n t now c).wait ≡ doubled c.wait

@@ -17,11 +17,11 @@ abbrev pub made : ℕ → Clock
 made now = record { first = now; touched = now; sent = 0; high = 0; ended = false; said = None; flight = nothing; measures = None; wait = shortest; since = now }
 
 abbrev pub came : ℕ → Clock → Clock
-came now c = record { first = c.first; touched = now; sent = c.sent; high = c.high; ended = c.ended; said = c.said; flight = c.flight; measures = c.measures; wait = c.wait; since = c.since }
+came now c = record c { touched = now }
 
 -- the waiting time runs from now on
 abbrev pub restarted : ℕ → Clock → Clock
-restarted now c = record { first = c.first; touched = c.touched; sent = c.sent; high = c.high; ended = c.ended; said = c.said; flight = c.flight; measures = c.measures; wait = c.wait; since = now }
+restarted now c = record c { since = now }
 
 -- it came to owe by what its user did
 abbrev pub owing : Numbers → Numbers → ℕ → Clock → Clock
@@ -29,7 +29,7 @@ owing before after now c = cond (not (owes before) && owes after) (restarted now
 
 -- upto was `before` and is `upto`
 abbrev pub heard : ℕ → ℕ → ℕ → Clock → Clock
-heard before upto now c = cond (nat_lt before upto) (record { first = c.first; touched = c.touched; sent = c.sent; high = c.high; ended = c.ended; said = c.said; flight = record { rows = map (settled upto) c.flight.rows }; measures = measured_by upto now c.measures c.flight.rows; wait = waiting (measured_by upto now c.measures c.flight.rows); since = now }) c
+heard before upto now c = cond (nat_lt before upto) (record c { flight = record { rows = map (settled upto) c.flight.rows }; measures = measured_by upto now c.measures c.flight.rows; wait = waiting (measured_by upto now c.measures c.flight.rows); since = now }) c
 
 -- whether a text goes out by the clock
 abbrev pub is_clock : Why → Bool
@@ -39,18 +39,18 @@ is_clock Due = false
 is_clock Why.Clock = true
 
 abbrev pub by_clock : Clock → Clock
-by_clock c = record { first = c.first; touched = c.touched; sent = c.sent; high = c.high; ended = c.ended; said = c.said; flight = nothing; measures = c.measures; wait = doubled c.wait; since = c.since }
+by_clock c = record c { flight = nothing; wait = doubled c.wait }
 
 -- a text with the bytes from p to e goes out
 abbrev pub with_bytes : ℕ → ℕ → ℕ → ℕ → Clock → Clock
-with_bytes sees p e now c = record { first = c.first; touched = c.touched; sent = max c.sent (min e sees); high = max c.high e; ended = c.ended; said = c.said; flight = record { rows = sent_rows c.high p e now c.flight.rows }; measures = c.measures; wait = c.wait; since = now }
+with_bytes sees p e now c = record c { sent = max c.sent (min e sees); high = max c.high e; flight = record { rows = sent_rows c.high p e now c.flight.rows }; since = now }
 
 abbrev pub with_last : ℕ → Clock → Clock
-with_last now c = record { first = c.first; touched = c.touched; sent = c.sent; high = c.high; ended = true; said = c.said; flight = c.flight; measures = c.measures; wait = c.wait; since = now }
+with_last now c = record c { ended = true; since = now }
 
 -- what the last text said
 abbrev pub saying : Numbers → Clock → Clock
-saying n c = record { first = c.first; touched = c.touched; sent = c.sent; high = c.high; ended = c.ended; said = Some (record { edge = n.edge; all = n.reached }); flight = c.flight; measures = c.measures; wait = c.wait; since = c.since }
+saying n c = record c { said = Some (record { edge = n.edge; all = n.reached }) }
 
 abbrev pub sent_text : Numbers → Choice → ℕ → Clock → Clock
 sent_text n t now c =

@@ -8,23 +8,23 @@ use Rattle.pacing.specs.declared.numbers.Why.{Why}
 use Rattle.pacing.specs.declared.clock.Said.{Said}
 use Rattle.pacing.specs.declared.clock.Clock.{Clock}
 use Rattle.pacing.specs.declared.next.Pending.{Pending}
-use Rattle.pacing.specs.declared.next.Pending.TheVariants.{Nothing, Answer, AnswerThenSpeak, Speak, Due, Tick}
+use Rattle.pacing.specs.declared.next.Pending.TheVariants.{Answer, AnswerThenSpeak, Speak, Due, Tick}
 use Rattle.pacing.specs.Text.{is_open, due, answer}
 use Rattle.pacing.specs.Clock.{late}
 
 -- what a text that came asks for, by whether it had bytes or last, and whether it brought a larger edge or upto
-abbrev pub asked : Bool → Bool → Pending
-asked true grew = cond grew AnswerThenSpeak Answer
-asked false grew = cond grew Speak Nothing
+abbrev pub asked : Bool → Bool → Option Pending
+asked true grew = Some (cond grew AnswerThenSpeak Answer)
+asked false grew = cond grew (Some Speak) None
 
 -- what is left after a text went out
-abbrev pub after : Pending → Pending
-after Nothing = Nothing
-after Answer = Nothing
-after AnswerThenSpeak = Speak
-after Speak = Speak
-after Due = Nothing
-after Tick = Nothing
+abbrev pub after : Option Pending → Option Pending
+after None = None
+after (Some Answer) = None
+after (Some AnswerThenSpeak) = Some Speak
+after (Some Speak) = Some Speak
+after (Some Due) = None
+after (Some Tick) = None
 
 -- the first place not sent yet, the bytes below `sent` having been
 abbrev pub fresh : Numbers → ℕ → ℕ
@@ -65,13 +65,13 @@ or_else None u = u
 abbrev pub speaks : Numbers → Clock → Option Choice
 speaks n c = or_else (new_text n c) (cond (up_to_date n c) None (Some (due n Why.Due)))
 
-abbrev pub wanted : Numbers → Clock → Pending → ℕ → Option Choice
-wanted n c Nothing now = None
-wanted n c Answer now = Some (answer n)
-wanted n c AnswerThenSpeak now = Some (answer n)
-wanted n c Speak now = speaks n c
-wanted n c Due now = Some (due n Why.Due)
-wanted n c Tick now = cond (late n now c) (Some (due n Why.Clock)) None
+abbrev pub wanted : Numbers → Clock → Option Pending → ℕ → Option Choice
+wanted n c None now = None
+wanted n c (Some Answer) now = Some (answer n)
+wanted n c (Some AnswerThenSpeak) now = Some (answer n)
+wanted n c (Some Speak) now = speaks n c
+wanted n c (Some Due) now = Some (due n Why.Due)
+wanted n c (Some Tick) now = cond (late n now c) (Some (due n Why.Clock)) None
 
-abbrev pub next_text : Numbers → Clock → Pending → ℕ → Option Choice
+abbrev pub next_text : Numbers → Clock → Option Pending → ℕ → Option Choice
 next_text n c p now = cond (is_open n.stage) (wanted n c p now) None

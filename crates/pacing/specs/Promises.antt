@@ -39,15 +39,15 @@ AlwaysTimely = (start : ℕ) (hs : List Happens) → Timely (clock_after start h
 
 -- one that owes is due at the latest so long after the moment from which its waiting time runs
 abbrev pub OwesSpeaks : Type 0
-OwesSpeaks = (n : Numbers) (start : ℕ) (hs : List Happens) (now : ℕ) → owes n ≡ true → (clock_after start hs).since + longest ≤ now → next_text n (clock_after start hs) Pending.Tick now ≡ Some (due n Why.Clock)
+OwesSpeaks = (n : Numbers) (start : ℕ) (hs : List Happens) (now : ℕ) → owes n ≡ true → (clock_after start hs).since + longest ≤ now → next_text n (clock_after start hs) (Some Pending.Tick) now ≡ Some (due n Why.Clock)
 
 -- what goes out by the clock has bytes or last, no more being confirmed than was given
 abbrev pub ClockCarries : Type 0
-ClockCarries = (n : Numbers) (c : Clock) (now : ℕ) (t : Choice) → n.upto ≤ n.given → next_text n c Pending.Tick now ≡ Some t → (0 < count n t) ⊎ (is_last n t ≡ true)
+ClockCarries = (n : Numbers) (c : Clock) (now : ℕ) (t : Choice) → n.upto ≤ n.given → next_text n c (Some Pending.Tick) now ≡ Some t → (0 < count n t) ⊎ (is_last n t ≡ true)
 
 -- and it starts the waiting time again, doubled
 abbrev pub ClockRestarts : Type 0
-ClockRestarts = (n : Numbers) (c : Clock) (now : ℕ) (t : Choice) → n.upto ≤ n.given → next_text n c Pending.Tick now ≡ Some t → ((sent_text n t now c).since ≡ now) × ((sent_text n t now c).wait ≡ doubled c.wait)
+ClockRestarts = (n : Numbers) (c : Clock) (now : ℕ) (t : Choice) → n.upto ≤ n.given → next_text n c (Some Pending.Tick) now ≡ Some t → ((sent_text n t now c).since ≡ now) × ((sent_text n t now c).wait ≡ doubled c.wait)
 
 -- a text that had bytes or last is answered at once
 abbrev pub Answered : Type 0
@@ -59,7 +59,7 @@ SaysAll = (n : Numbers) (c : Clock) (t : Choice) (now : ℕ) → up_to_date n (s
 
 -- one that owes nothing and is asked nothing sends nothing
 abbrev pub Silent : Type 0
-Silent = (n : Numbers) (c : Clock) (now : ℕ) → (next_text n c Pending.Nothing now ≡ None) × (owes n ≡ false → next_text n c Pending.Tick now ≡ None)
+Silent = (n : Numbers) (c : Clock) (now : ℕ) → (next_text n c None now ≡ None) × (owes n ≡ false → next_text n c (Some Pending.Tick) now ≡ None)
 
 -- no byte of an answer or of a new text is at or beyond what is seen, and one of a due text at most
 abbrev pub BelowSees : Type 0
@@ -74,18 +74,18 @@ Before t (Some w) = t < w
 
 -- nothing happens before it wants to be woken
 abbrev pub Sleeps : Type 0
-Sleeps = (n : Numbers) (c : Clock) (now t : ℕ) → Timely c.wait → now < t → t ≤ last_tick → Before t (wake n c now) → at_tick n c t ≡ Act.Nothing
+Sleeps = (n : Numbers) (c : Clock) (now t : ℕ) → Timely c.wait → now < t → t ≤ last_tick → Before t (wake n c now) → at_tick n c t ≡ None
 
 -- something happens then
 abbrev pub Wakes : Type 0
-Wakes = (n : Numbers) (c : Clock) (now w : ℕ) → wake n c now ≡ Some w → w < last_tick → (now < w) × (at_tick n c w ≢ Act.Nothing)
+Wakes = (n : Numbers) (c : Clock) (now w : ℕ) → wake n c now ≡ Some w → w < last_tick → (now < w) × (at_tick n c w ≢ None)
 
 -- a finished one is forgotten so long after the last packet for it
 abbrev pub Finished : Type 0
 Finished = (n : Numbers) (c : Clock) (now : ℕ) → is_open n.stage ≡ true →
-    (finished n ≡ true → c.touched + quiet ≤ now → at_tick n c now ≡ Act.Forget) × (at_tick n c now ≡ Act.Forget → (finished n ≡ true) × (c.touched + quiet ≤ now))
+    (finished n ≡ true → c.touched + quiet ≤ now → at_tick n c now ≡ Some Act.Forget) × (at_tick n c now ≡ Some Act.Forget → (finished n ≡ true) × (c.touched + quiet ≤ now))
 
 -- one that isn't open sends its ask or yes again at the moments for that, and is given up after 160,000 ticks
 abbrev pub OpeningMoments : Type 0
 OpeningMoments = (n : Numbers) (c : Clock) (later : ℕ) → n.stage ≡ Stage.Opening →
-    (among later again ≡ true → at_tick n c (c.first + later) ≡ Act.Repeat) × (at_tick n c (c.first + later) ≡ Act.Repeat → among later again ≡ true) × (patience ≤ later → at_tick n c (c.first + later) ≡ Act.GiveUp)
+    (among later again ≡ true → at_tick n c (c.first + later) ≡ Some Act.Repeat) × (at_tick n c (c.first + later) ≡ Some Act.Repeat → among later again ≡ true) × (patience ≤ later → at_tick n c (c.first + later) ≡ Some Act.GiveUp)

@@ -6,29 +6,29 @@ use Rattle.pacing.specs.declared.numbers.Stage.{Stage}
 use Rattle.pacing.specs.declared.numbers.Stage.TheVariants.{Opening, Open, Gone}
 use Rattle.pacing.specs.declared.clock.Clock.{Clock}
 use Rattle.pacing.specs.declared.tick.Act.{Act}
-use Rattle.pacing.specs.declared.tick.Act.TheVariants.{Nothing, Repeat, GiveUp, Forget, Speak}
+use Rattle.pacing.specs.declared.tick.Act.TheVariants.{Repeat, GiveUp, Forget, Speak}
 use Rattle.pacing.specs.Text.{owes, finished}
 use Rattle.pacing.specs.Clock.{late}
 
 abbrev pub quiet : ℕ
 quiet = 250000
 
-abbrev pub opening_tick : ℕ → ℕ → Act
-opening_tick start now = cond (nat_lt (now - start) patience) (cond (repeats start now) Repeat Nothing) GiveUp
+abbrev pub opening_tick : ℕ → ℕ → Option Act
+opening_tick start now = cond (nat_lt (now - start) patience) (cond (repeats start now) (Some Repeat) None) (Some GiveUp)
 
 -- it is finished, and the last packet for it is long past
 abbrev pub over : Numbers → ℕ → Clock → Bool
 over n now c = finished n && not (nat_lt (now - c.touched) quiet)
 
-abbrev pub open_tick : Numbers → Clock → ℕ → Act
-open_tick n c now = cond (over n now c) Forget (cond (late n now c) Speak Nothing)
+abbrev pub open_tick : Numbers → Clock → ℕ → Option Act
+open_tick n c now = cond (over n now c) (Some Forget) (cond (late n now c) (Some Speak) None)
 
-abbrev pub tick_in : Stage → Numbers → Clock → ℕ → Act
+abbrev pub tick_in : Stage → Numbers → Clock → ℕ → Option Act
 tick_in Opening n c now = opening_tick c.first now
 tick_in Open n c now = open_tick n c now
-tick_in Gone n c now = Nothing
+tick_in Gone n c now = None
 
-abbrev pub at_tick : Numbers → Clock → ℕ → Act
+abbrev pub at_tick : Numbers → Clock → ℕ → Option Act
 at_tick n c now = tick_in n.stage n c now
 
 -- so much later than a moment, but not before the next tick

@@ -1,5 +1,5 @@
 -- A connection that sends by these rules: its sixteen rows say of all texts under way what is wanted of them.
-use Rattle.std.specs.Prelude.{◌≡◌, ℕ, ◌<◌, cond, List, [], ◌∷◌, length, Some, nat_lt}
+use Rattle.std.specs.Prelude.{◌≡◌, ℕ, ◌<◌, cond, List, [], ◌∷◌, length, Some, Option, nat_lt}
 use Rattle.timer.specs.Enough.{Way, Move, Sends, Clears, Confirms, way_after, Enough}
 use Rattle.pacing.specs.declared.numbers.Choice.{Choice}
 use Rattle.pacing.specs.declared.numbers.Numbers.{Numbers}
@@ -40,7 +40,7 @@ ByRule start (Came now) hs = Unit
 ByRule start (Opened now) hs = Unit
 ByRule start (Owing before after now) hs = Unit
 ByRule start (Heard before upto now) hs = before ≡ (way hs).upto
-ByRule start (Sent n t now) hs = (n.upto ≡ (way hs).upto) × ((p : Pending) × (next_text n (clock_after start hs) p now ≡ Some t))
+ByRule start (Sent n t now) hs = (n.upto ≡ (way hs).upto) × ((p : Option Pending) × (next_text n (clock_after start hs) p now ≡ Some t))
 
 unfoldable pub Ruled : ℕ → List Happens → Type 0
 Ruled start [] = Unit

@@ -1,7 +1,7 @@
 ghost use Rattle.std.specs.Prelude.{◌≡◌};
 ghost use Rattle.pacing.specs.Clock as spec;
 
-use crate::numbers::{Choice, Numbers, Why};
+use crate::numbers::Numbers;
 use timer::flight::Flight;
 use timer::measures::{Measures, SHORTEST, doubled, waiting_time};
 
@@ -13,7 +13,7 @@ pub struct Said {
 }
 
 /// A connection's clock: what it sent, and when. Times are ticks of its end.
-#[derive(Clone, Copy)]
+#[derive(Clone, Copy, PartialEq, Eq, Debug)]
 pub struct Clock {
     /// When its first ask or yes was sent.
     pub first: u64,
@@ -97,37 +97,8 @@ impl Clock {
         }
     }
 
-    /// A text goes out. One by the clock leaves nothing under way but itself, and doubles the waiting time.
-    pub fn sent(self, numbers: Numbers, text: Choice, now: u64) -> Clock
-        ensures { result ≡ spec.sent_text numbers text now self }
-    {
-        let said = Some(Said {
-            edge: numbers.edge,
-            all: numbers.reached,
-        });
-        let c = Clock { said, ..self };
-        let c = if matches!(text.why, Why::Clock) {
-            c.by_clock()
-        } else {
-            c
-        };
-        let end = numbers.end_of(text);
-        let c = if text.place < end {
-            c.with_bytes(numbers, text.place, end, now)
-        } else {
-            c
-        };
-        if numbers.is_last(text) {
-            return Clock {
-                ended: true,
-                since: now,
-                ..c
-            };
-        }
-        c
-    }
-
-    fn by_clock(self) -> Clock
+    /// A text goes out by the clock: nothing is under way any more, and the waiting time is doubled.
+    pub(crate) fn by_clock(self) -> Clock
         ensures { result ≡ spec.by_clock self }
     {
         Clock {
@@ -137,11 +108,12 @@ impl Clock {
         }
     }
 
-    fn with_bytes(self, numbers: Numbers, place: u64, end: u64, now: u64) -> Clock
-        ensures { result ≡ spec.with_bytes numbers.sees place end now self }
+    /// A text with the bytes from `place` to `end` goes out; the bytes below `sees` may be sent.
+    pub(crate) fn with_bytes(self, sees: u64, place: u64, end: u64, now: u64) -> Clock
+        ensures { result ≡ spec.with_bytes sees place end now self }
     {
         Clock {
-            sent: self.sent.max(end.min(numbers.sees)),
+            sent: self.sent.max(end.min(sees)),
             high: self.high.max(end),
             flight: self.flight.sent(self.high, place, end, now),
             since: now,
@@ -149,10 +121,14 @@ impl Clock {
         }
     }
 
-    /// Whether the waiting time has passed for one that owes.
-    pub fn late(self, numbers: Numbers, now: u64) -> bool
-        ensures { result ≡ spec.late numbers now self }
+    /// A text with last goes out.
+    pub(crate) fn with_last(self, now: u64) -> Clock
+        ensures { result ≡ spec.with_last now self }
     {
-        numbers.owes() && now.saturating_sub(self.since) >= self.wait
+        Clock {
+            ended: true,
+            since: now,
+            ..self
+        }
     }
 }

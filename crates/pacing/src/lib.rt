@@ -4,5 +4,6 @@
 pub mod clock;
 pub mod next;
 pub mod numbers;
+pub mod paced;
 pub mod promises;
 pub mod tick;

@@ -80,27 +80,26 @@ impl Numbers {
         self.closed && !self.all && self.end_of(text) == self.given
     }
 
-    /// A due text begins with the first byte that isn't confirmed; where nothing may be sent it has one byte all the same.
-    pub fn due(self, why: Why) -> Choice
-        ensures { result ≡ spec.due self why }
-    {
-        let most = self.size.min(self.sees.saturating_sub(self.upto)).max(1);
-        Choice {
-            place: self.upto,
-            most,
-            why,
-        }
-    }
-
-    /// An answer is a due text with no byte at or beyond what it sees.
+    /// An answer begins with the first byte that isn't confirmed, and has no byte at or beyond what it sees.
     pub fn answer(self) -> Choice
         ensures { result ≡ spec.answer self }
     {
-        let most = self.size.min(self.sees.saturating_sub(self.upto));
         Choice {
             place: self.upto,
-            most,
+            most: self.size.min(self.sees.saturating_sub(self.upto)),
             why: Why::Answer,
+        }
+    }
+
+    /// A due text begins where an answer does; where nothing may be sent it has one byte all the same.
+    pub fn due(self, why: Why) -> Choice
+        ensures { result ≡ spec.due self why }
+    {
+        let answer = self.answer();
+        Choice {
+            most: answer.most.max(1),
+            why,
+            ..answer
         }
     }
 }

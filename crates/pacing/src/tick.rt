@@ -1,17 +1,16 @@
 ghost use Rattle.std.specs.Prelude.{◌≡◌};
 ghost use Rattle.pacing.specs.Tick as spec;
 
-use crate::clock::Clock;
-use crate::numbers::{Numbers, Stage};
+use crate::numbers::Stage;
+use crate::paced::Paced;
 use timer::opening::{gives_up, next_moment, repeats, tick_after};
 
 /// So many ticks after the last packet for it, a finished connection is forgotten.
 pub const QUIET: u64 = 250000;
 
-/// What a connection does at a tick.
+/// What a connection does at a tick; where it does nothing there is none.
 #[derive(Clone, Copy, PartialEq, Eq, Debug)]
 pub enum Act {
-    Nothing,
     /// Its ask or yes is sent again.
     Repeat,
     /// Nothing came that opens it: it is gone.
@@ -22,62 +21,58 @@ pub enum Act {
     Speak,
 }
 
-/// What a connection does at the tick `now`.
-pub fn at_tick(numbers: Numbers, clock: Clock, now: u64) -> Act
-    ensures { result ≡ spec.at_tick numbers clock now }
-{
-    match numbers.stage {
-        Stage::Opening => opening_tick(clock.first, now),
-        Stage::Open => open_tick(numbers, clock, now),
-        Stage::Gone => Act::Nothing,
+impl Paced {
+    /// What a connection does at the tick `now`.
+    pub fn at_tick(self, now: u64) -> Option<Act>
+        ensures { result ≡ spec.at_tick self.numbers self.clock now }
+    {
+        match self.numbers.stage {
+            Stage::Opening => opening_tick(self.clock.first, now),
+            Stage::Open => self.open_tick(now),
+            Stage::Gone => None,
+        }
+    }
+
+    fn open_tick(self, now: u64) -> Option<Act>
+        ensures { result ≡ spec.open_tick self.numbers self.clock now }
+    {
+        if self.numbers.finished() && now.saturating_sub(self.clock.touched) >= QUIET {
+            return Some(Act::Forget);
+        }
+        self.late(now).then_some(Act::Speak)
+    }
+
+    /// The next tick at which a connection does something, unless something else happens before; none, if it is silent for ever.
+    pub fn wake(self, now: u64) -> Option<u64>
+        ensures { result ≡ spec.wake self.numbers self.clock now }
+    {
+        match self.numbers.stage {
+            Stage::Opening => Some(next_moment(self.clock.first, now)),
+            Stage::Open => self.open_wake(now),
+            Stage::Gone => None,
+        }
+    }
+
+    fn open_wake(self, now: u64) -> Option<u64>
+        ensures { result ≡ spec.open_wake self.numbers self.clock now }
+    {
+        let next = tick_after(now, 1);
+        let forget = tick_after(self.clock.touched, QUIET).max(next);
+        let speak = tick_after(self.clock.since, self.clock.wait).max(next);
+        let forget = self.numbers.finished().then_some(forget);
+        let speak = self.numbers.owes().then_some(speak);
+        match (forget, speak) {
+            (Some(forget), Some(speak)) => Some(forget.min(speak)),
+            _ => forget.or(speak),
+        }
     }
 }
 
-fn opening_tick(first: u64, now: u64) -> Act
+fn opening_tick(first: u64, now: u64) -> Option<Act>
     ensures { result ≡ spec.opening_tick first now }
 {
     if gives_up(first, now) {
-        return Act::GiveUp;
+        return Some(Act::GiveUp);
     }
-    if repeats(first, now) {
-        return Act::Repeat;
-    }
-    Act::Nothing
-}
-
-fn open_tick(numbers: Numbers, clock: Clock, now: u64) -> Act
-    ensures { result ≡ spec.open_tick numbers clock now }
-{
-    if numbers.finished() && now.saturating_sub(clock.touched) >= QUIET {
-        return Act::Forget;
-    }
-    if clock.late(numbers, now) {
-        return Act::Speak;
-    }
-    Act::Nothing
-}
-
-/// The next tick at which a connection does something, unless something else happens before; none, if it is silent for ever.
-pub fn wake(numbers: Numbers, clock: Clock, now: u64) -> Option<u64>
-    ensures { result ≡ spec.wake numbers clock now }
-{
-    match numbers.stage {
-        Stage::Opening => Some(next_moment(clock.first, now)),
-        Stage::Open => open_wake(numbers, clock, now),
-        Stage::Gone => None,
-    }
-}
-
-fn open_wake(numbers: Numbers, clock: Clock, now: u64) -> Option<u64>
-    ensures { result ≡ spec.open_wake numbers clock now }
-{
-    let next = tick_after(now, 1);
-    let forget = tick_after(clock.touched, QUIET).max(next);
-    let speak = tick_after(clock.since, clock.wait).max(next);
-    match (numbers.finished(), numbers.owes()) {
-        (true, true) => Some(forget.min(speak)),
-        (true, false) => Some(forget),
-        (false, true) => Some(speak),
-        (false, false) => None,
-    }
+    repeats(first, now).then_some(Act::Repeat)
 }

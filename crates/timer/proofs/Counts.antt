@@ -1,5 +1,8 @@
 -- How many rows lie above a place; rows in the order of their ends; the clean ones.
-use Rattle.std.proofs.Common.{◌≡◌, ℕ, ◌+◌, ◌-◌, ◌<◌, ◌≤◌, min, Bool, true, false, cond, not, ltb, List, [], ◌∷◌, ◌++◌, map, length, drop, Option, refl, ap, ◌∙◌, append-nil, arith}
+use Rattle.std.proofs.Common.{◌≡◌, ℕ, ◌+◌, ◌-◌, ◌<◌, ◌≤◌, min, Bool, true, false, not, ltb, List, filter, [], ◌∷◌, ◌++◌, map, length, drop, Option, refl, ap, ◌∙◌, append-nil, arith}
+use Rattle.std.proofs.lemmas.List.{length-append}
+use Rattle.std.proofs.lemmas.List.Elements.{filter-append}
+use Rattle.std.proofs.lemmas.List.Filters.{length-filter_both}
 use Rattle.std.proofs.lemmas.Bool.{cond_both, ltb-true, ltb-false}
 use Rattle.std.proofs.lemmas.Bool.Decides.{nat_tests}
 use Rattle.timer.specs.declared.measures.Measures.{Measures}
@@ -7,77 +10,62 @@ use Rattle.timer.specs.declared.flight.Row.{Row}
 use Rattle.timer.specs.Flight.{unclean, resent, settled, insert, full, shares, measured_by, measured_one}
 use Rattle.timer.specs.Enough.{beyond}
 
-unfoldable pub above : ℕ → List Row → ℕ
-above u [] = 0
-above u (r ∷ rs) = cond (ltb u r.end) (above u rs + 1) (above u rs)
+abbrev pub above : ℕ → List Row → ℕ
+above u rs = length (beyond u rs)
 
 abbrev pub Rising : ℕ → List Row → Type 0
 Rising low [] = Unit
 Rising low (r ∷ rs) = (low ≤ r.end) × Rising r.end rs
 
-unfoldable pub cleans : List Row → List Row
-cleans [] = []
-cleans (r ∷ rs) = cond r.clean (r ∷ cleans rs) (cleans rs)
+abbrev pub cleans : List Row → List Row
+cleans rs = filter (λ r. r.clean) rs
 
 -- those that share no byte with a text
-unfoldable pub apart : ℕ → ℕ → List Row → List Row
-apart p e [] = []
-apart p e (r ∷ rs) = cond (shares p e r) (apart p e rs) (r ∷ apart p e rs)
+abbrev pub apart : ℕ → ℕ → List Row → List Row
+apart p e rs = filter (λ r. not (shares p e r)) rs
 
 pub above-resent : (u p e : ℕ) (xs : List Row) → above u (map (resent p e) xs) ≡ above u xs
-unfolding above
 above-resent u p e [] = refl
 above-resent u p e (x ∷ xs) = let r = above-resent u p e xs in grind (arith, nat_tests)
 
 pub above-settled : (u v : ℕ) (xs : List Row) → above u (map (settled v) xs) ≡ above u xs
-unfolding above
 above-settled u v [] = refl
 above-settled u v (x ∷ xs) = let r = above-settled u v xs in grind (arith, nat_tests)
 
 pub above_push : (u : ℕ) (x : Row) (xs : List Row) → above u (xs ++ x ∷ []) ≡ above u (x ∷ xs)
-unfolding above
-above_push u x [] = refl
-above_push u x (y ∷ xs) = let r = above_push u x xs in grind (arith, nat_tests)
+above_push u x xs = let a = filter-append (λ r. ltb u r.end) xs (x ∷ []) in let l = length-append (beyond u xs) (beyond u (x ∷ [])) in grind (arith, nat_tests)
 
 pub above-insert : (u : ℕ) (x : Row) (xs : List Row) → above u (insert x xs) ≡ above u (x ∷ xs)
-unfolding above insert
+unfolding insert
 above-insert u x [] = refl
 above-insert u x (y ∷ xs) = let r = above-insert u x xs in grind (arith, nat_tests)
 
 pub above-beyond : (u v : ℕ) (xs : List Row) → v ≤ u → above u (beyond v xs) ≡ above u xs
-unfolding above beyond
 above-beyond u v [] l = refl
 above-beyond u v (x ∷ xs) l = let r = above-beyond u v xs l in grind (arith, nat_tests)
 
 pub beyond_all : (v : ℕ) (xs : List Row) → above v (beyond v xs) ≡ length (beyond v xs)
-unfolding above beyond
 beyond_all v [] = refl
 beyond_all v (x ∷ xs) = let r = beyond_all v xs in grind (arith, nat_tests)
 
 pub above_few : (u : ℕ) (xs : List Row) → above u xs ≤ length xs
-unfolding above
-above_few u [] = omega arith
-above_few u (x ∷ xs) = let r = above_few u xs in grind (arith, nat_tests)
+above_few u xs = omega (arith, length-filter_both (λ r. ltb u r.end) (λ r. not (ltb u r.end)) (λ _. refl) xs)
 
 pub above_falls : (u v : ℕ) (xs : List Row) → u ≤ v → above v xs ≤ above u xs
-unfolding above
 above_falls u v [] l = omega arith
 above_falls u v (x ∷ xs) l = let r = above_falls u v xs l in grind (arith, nat_tests)
 
 rising-above : (u low : ℕ) (xs : List Row) → Rising low xs → u < low → above u xs ≡ length xs
-unfolding above
 rising-above u low [] s l = refl
 rising-above u low (x ∷ xs) (h, s) l = let r = rising-above u x.end xs s (omega arith) in grind (arith, nat_tests)
 
 -- the lowest left out
 pub above-drop : (u low : ℕ) (xs : List Row) → Rising low xs → above u (drop 1 xs) ≡ min (length xs - 1) (above u xs)
-unfolding above
 above-drop u low [] s = refl
 above-drop u low (x ∷ xs) (h, s) = let f = above_few u xs in let r = rising-above u x.end xs s in grind (arith, nat_tests)
 
 -- the lowest is above a place exactly if all are
 pub full_all : (u low : ℕ) (xs : List Row) → Rising low xs → length xs ≡ 16 → full u xs ≡ not (ltb (above u xs) 16)
-unfolding above
 full_all u low [] s l = absurd (omega arith)
 full_all u low (x ∷ xs) (h, s) l = let f = above_few u xs in let r = rising-above u x.end xs s in grind (arith, nat_tests)
 
@@ -111,47 +99,37 @@ length-insert x [] = refl
 length-insert x (y ∷ xs) = let r = length-insert x xs in grind (arith, nat_tests)
 
 pub insert_last : (h : ℕ) (x : Row) (xs : List Row) → above h xs ≡ 0 → h ≤ x.end → insert x xs ≡ xs ++ x ∷ []
-unfolding insert above
+unfolding insert
 insert_last h x [] a l = refl
 insert_last h x (y ∷ xs) a l = let r = insert_last h x xs in grind (arith, nat_tests)
 
 pub cleans-resent : (p e : ℕ) (xs : List Row) → cleans (map (resent p e) xs) ≡ apart p e (cleans xs)
-unfolding cleans apart
 cleans-resent p e [] = refl
 cleans-resent p e (x ∷ xs) = let r = cleans-resent p e xs in grind (arith, nat_tests)
 
 pub cleans-settled : (v : ℕ) (xs : List Row) → cleans (map (settled v) xs) ≡ beyond v (cleans xs)
-unfolding cleans beyond
 cleans-settled v [] = refl
 cleans-settled v (x ∷ xs) = let r = cleans-settled v xs in grind (arith, nat_tests)
 
 pub cleans-beyond : (v : ℕ) (xs : List Row) → cleans (beyond v xs) ≡ beyond v (cleans xs)
-unfolding cleans beyond
 cleans-beyond v [] = refl
 cleans-beyond v (x ∷ xs) = let r = cleans-beyond v xs in grind (arith, nat_tests)
 
-pub cleans_push : (x : Row) (xs : List Row) → cleans (xs ++ x ∷ []) ≡ cleans xs ++ cleans (x ∷ [])
-unfolding cleans
-cleans_push x [] = refl
-cleans_push x (y ∷ xs) = let r = cleans_push x xs in grind (arith, nat_tests)
-
 pub cleans-insert : (x : Row) (xs : List Row) → x.clean ≡ false → cleans (insert x xs) ≡ cleans xs
-unfolding cleans insert
+unfolding insert
 cleans-insert x [] c = grind (arith, nat_tests)
 cleans-insert x (y ∷ xs) c = let r = cleans-insert x xs c in grind (arith, nat_tests)
 
 -- a clean row more stands at the end
 pub cleans_more : (h : ℕ) (x : Row) (xs : List Row) → above h xs ≡ 0 → (x.clean ≡ true → h ≤ x.end) → cleans (insert x xs) ≡ cleans xs ++ cleans (x ∷ [])
-unfolding cleans
 cleans_more h x xs a f = go x.clean refl
   where
     go : (b : Bool) → x.clean ≡ b → cleans (insert x xs) ≡ cleans xs ++ cleans (x ∷ [])
-    go true e = ap cleans (insert_last h x xs a (f e)) ∙ cleans_push x xs
+    go true e = ap cleans (insert_last h x xs a (f e)) ∙ filter-append (λ r. r.clean) xs (x ∷ [])
     go false e = let r = cleans-insert x xs e in let n = append-nil (cleans xs) in let z : cleans (x ∷ []) ≡ [] = grind (arith, nat_tests) in cc
 
 -- only clean rows are measured
 pub measured-cleans : (upto now : ℕ) (m : Option Measures) (xs : List Row) → measured_by upto now m xs ≡ measured_by upto now m (cleans xs)
-unfolding measured_by cleans
 measured-cleans upto now m [] = refl
 measured-cleans upto now m (x ∷ xs) =
     cond_both x.clean (x ∷ cleans xs) (cleans xs) (λ z. measured_by upto now (measured_one upto now m x) xs ≡ measured_by upto now m z)

@@ -3,10 +3,11 @@ use Rattle.std.proofs.Common.{◌≡◌, ℕ, zero, suc, ◌<◌, ◌≤◌, min
 use Rattle.std.proofs.lemmas.Bool.{cond_both, ltb-true}
 use Rattle.std.proofs.lemmas.Bool.Decides.{nat_tests}
 use Rattle.std.proofs.lemmas.List.{length-map, length-append}
+use Rattle.std.proofs.lemmas.List.Elements.{filter-append}
 use Rattle.timer.specs.declared.flight.Row.{Row}
 use Rattle.timer.specs.Flight.{blank, unclean, resent, settled, insert, full, shares}
 use Rattle.timer.specs.Enough.{Way, Move, Sends, Clears, Confirms, moved, held, beyond, way_after, held_after, Allowed, Lawful, Enough, SixteenSuffice}
-use Rattle.timer.proofs.Counts.{above, cleans, above-resent, above-settled, above_push, above-insert, above-beyond, beyond_all, above_falls, above-drop, length-insert, cleans-resent, cleans-settled, cleans-beyond, cleans_push, cleans_more, measured-cleans}
+use Rattle.timer.proofs.Counts.{above, cleans, above-resent, above-settled, above_push, above-insert, above-beyond, beyond_all, above_falls, above-drop, length-insert, cleans-resent, cleans-settled, cleans-beyond, cleans_more, measured-cleans}
 use Rattle.timer.proofs.Ordered.{Ordered, ordered_blank, ordered_sent, ordered_settled, rising-sent, full-above}
 
 -- each clean row has bytes that aren't confirmed
@@ -48,17 +49,15 @@ sound-drop u (x ∷ xs) (h, s) = s
 -- the row that is left out isn't clean
 head_unclean : (p e high upto : ℕ) (x : Row) (xs : List Row) → x.end ≡ e → x.clean ≡ not (ltb p high) → p < e → 0 < length xs → Sound upto xs → above high xs ≡ 0 → (p ≡ upto) ⊎ (full upto xs ≡ false) →
     cleans (drop 1 (insert x (map (resent p e) xs))) ≡ cleans (insert x (map (resent p e) xs))
-unfolding insert above cleans
+unfolding insert
 head_unclean p e high upto x [] a b l z s h k = absurd (omega arith)
 head_unclean p e high upto x (y ∷ xs) a b l z (s, _) h k = ⊎_elim (λ q. grind (arith, nat_tests)) (λ q. grind (arith, nat_tests)) k
 
 above-blank : (u n : ℕ) → above u (replicate n blank) ≡ 0
-unfolding above
 above-blank u zero = refl
 above-blank u (suc n) = let r = above-blank u n in grind (arith, nat_tests)
 
 cleans-blank : (n : ℕ) → cleans (replicate n blank) ≡ []
-unfolding cleans
 cleans-blank zero = refl
 cleans-blank (suc n) = cleans-blank n
 
@@ -67,7 +66,6 @@ sound-blank u zero = tt
 sound-blank u (suc n) = ((λ b. absurd (never b)), sound-blank u n)
 
 kept_blank : (w : Way) → w.rows ≡ [] → Kept w (replicate 16 blank)
-unfolding above cleans
 kept_blank w e = record {
   ordered = ordered_blank;
   same = (λ u l. let a = above-blank u 16 in rw e (omega arith));
@@ -84,7 +82,6 @@ kept_enough w ks k = record {
 }
 
 kept_sends : (p e now : ℕ) (w : Way) (ks : List Row) → Allowed (Sends p e now) w → Kept w ks → Kept (moved (Sends p e now) w) (held (Sends p e now) w ks)
-unfolding above
 kept_sends p e now w ks (a, b, d) k =
     let x : Row = record { place = p; end = e; time = now; clean = not (ltb p w.high) } in
     let ys = map (resent p e) ks in
@@ -94,7 +91,7 @@ kept_sends p e now w ks (a, b, d) k =
     record {
       ordered = ordered_sent w.high p e now ks k.ordered;
       same = (λ u h. let f = above_push u x (map (resent p e) w.rows) in let g = above-resent u p e w.rows in let j = above-drop u 0 (insert x ys) rising in let i = above-insert u x ys in let o = above-resent u p e ks in let q = k.same u h in let m = k.ordered.size in grind (arith, nat_tests));
-      clean = (let f = cleans_push x (map (resent p e) w.rows) in let g = cleans-resent p e w.rows in let j = cleans-resent p e ks in let o = k.clean in
+      clean = (let f = filter-append (λ r. r.clean) (map (resent p e) w.rows) (x ∷ []) in let g = cleans-resent p e w.rows in let j = cleans-resent p e ks in let o = k.clean in
           let i = head_unclean p e w.high w.upto x ks refl refl b (omega (arith, k.ordered.size)) k.sound k.low (⊎_elim inl (λ q. inr (let n = (kept_enough w ks k).few in grind (arith, nat_tests))) d) in
           let m = cleans_more w.high x ys (above-resent w.high p e ks ∙ k.low) (λ t. grind (arith, nat_tests)) in cc);
       far = (let f = above_push w.upto x (map (resent p e) w.rows) in let g = above-resent w.upto p e w.rows in let j = k.far in let i = length-append (map (resent p e) w.rows) (x ∷ []) in let o = length-map w.rows (resent p e) in grind (arith, nat_tests));

@@ -31,7 +31,6 @@ ordered_sent high p e now ks o =
 
 -- a row more above what it reaches beyond, but sixteen at most
 pub above-sent : (u high p e now : ℕ) (ks : List Row) → Ordered ks → u < e → above u (sent_rows high p e now ks) ≡ min 16 (above u ks + 1)
-unfolding above
 above-sent u high p e now ks o l =
     let x : Row = record { place = p; end = e; time = now; clean = not (ltb p high) } in
     let d = above-drop u 0 (insert x (map (resent p e) ks)) (rising-sent p e x ks o) in let i = above-insert u x (map (resent p e) ks) in let r = above-resent u p e ks in

@@ -1,63 +1,58 @@
--- Rows, step by step: one put in by its end; all measured.
-use Rattle.std.proofs.Common.{◌≡◌, ℕ, ◌+◌, ◌<◌, ◌≤◌, cond, List, [], ◌∷◌, ◌++◌, length, get_or, take, drop, set, Option, sym, refl, ap, ◌∙◌, append_assoc, add-one, arith}
-use Rattle.std.proofs.lemmas.List.{drop_more, at_drop_more, take_more_set, drop-set-lt, drop_all, set_split, get_or-set_other}
-use Rattle.std.proofs.lemmas.Bool.{lt-ltb, le-ltb}
+-- Rows: a closure called at each; one put in by its end.
+use Rattle.std.specs.Array.{IsMapOf, MapsFrom}
+use Rattle.std.specs.Fn.{Called}
+use Rattle.std.specs.List.{position_or_len}
+use Rattle.std.specs.Option.{unwrap_or}
+use Rattle.std.proofs.Common.{◌≡◌, ℕ, zero, suc, ◌+◌, ◌<◌, ◌≤◌, ltb, Bool, true, false, cond, not, Option, Some, None, List, [], ◌∷◌, ◌++◌, map, length, get_or, take, drop, set, sym, refl, subst, ⊎_elim, ap, ◌∙◌, arith}
+use Rattle.std.proofs.lemmas.List.{ext_get_or, length-map, get_or-map}
+use Rattle.std.proofs.lemmas.List.Sums.{prefix_len-le-length}
+use Rattle.std.proofs.lemmas.Bool.{cases_lt}
+use Rattle.std.proofs.lemmas.Bool.Decides.{nat_tests}
+use denote.Param.Members.{Mut}
 use Rattle.timer.specs.declared.flight.Row.{Row}
-use Rattle.timer.specs.declared.measures.Measures.{Measures}
-use Rattle.timer.specs.Flight.{insert, pushed, blank, measured_one, measured_by}
+use Rattle.timer.specs.Flight.{blank, insert, pushed}
 
-insert_none : (x : Row) → insert x [] ≡ x ∷ []
+-- what `map` of an array of rows gives, where the closure computes h and stays as it is
+module _ {F : Type 0} (g : Mut F (Row × Unit {0}) Row) (h : Row → Row) (f : F) (computes : (x y : Row) (q : F) → Called g f (x, tt) y q → (q ≡ f) × (y ≡ h x)) (xs ys : List Row) where
+  each_maps : (i n : ℕ) → MapsFrom g f xs ys i n → (j : ℕ) → i ≤ j → j < i + n → get_or ys j blank ≡ h (get_or xs j blank)
+  each_maps i zero m j a b = absurd (omega arith)
+  each_maps i (suc n) (q, x, y, ex, ey, c, rest) j a b = ⊎_elim
+      (λ l. each_maps (i + 1) n (subst (λ z. MapsFrom g z xs ys (i + 1) n) (computes x y q c).0 rest) j (omega arith) (omega arith))
+      (λ l. let e : j ≡ i = omega arith in rw e (ey.1 blank ∙ (computes x y q c).1 ∙ ap h (sym (ex.1 blank))))
+      (cases_lt i j)
+
+  pub map_of : (n : ℕ) → IsMapOf g f xs ys n → length xs ≡ n → ys ≡ map h xs
+  map_of n m l = ext_get_or blank ys (map h xs) (m.long ∙ sym l ∙ sym (length-map xs h)) (λ i w.
+      each_maps 0 n m.each i (omega arith) (omega (arith, m.long)) ∙ sym (get_or-map h xs i blank blank (omega (arith, m.long))))
+
+abbrev pub ends_after : Row → Row → Bool
+ends_after x y = ltb x.end y.end
+
+-- a row is put in before the first that ends after it
+insert_first : (x : Row) (ys : List Row) → insert x ys ≡ take (position_or_len (ends_after x) ys) ys ++ x ∷ drop (position_or_len (ends_after x) ys) ys
 unfolding insert
-insert_none x = refl
+insert_first x [] = refl
+insert_first x (y ∷ ys) = go (ends_after x y) refl (insert_first x ys)
+  where
+    go : (b : Bool) → ends_after x y ≡ b → insert x ys ≡ take (position_or_len (ends_after x) ys) ys ++ x ∷ drop (position_or_len (ends_after x) ys) ys →
+        insert x (y ∷ ys) ≡ take (position_or_len (ends_after x) (y ∷ ys)) (y ∷ ys) ++ x ∷ drop (position_or_len (ends_after x) (y ∷ ys)) (y ∷ ys)
+    go true e r = rw e refl
+    go false e r = let s : 1 + position_or_len (ends_after x) ys ≡ suc (position_or_len (ends_after x) ys) = omega arith in rw (e, s) (ap (λ zs. y ∷ zs) r)
 
-insert_here : (x y : Row) (ys : List Row) → x.end < y.end → insert x (y ∷ ys) ≡ x ∷ y ∷ ys
-unfolding insert
-insert_here x y ys h = ap (λ b. cond b (x ∷ y ∷ ys) (y ∷ insert x ys)) (lt-ltb _ _ h)
+-- the rows before a place move down by one, and a row takes the last of their places
+moved_down : (x y : Row) (ys : List Row) (j : ℕ) → j ≤ length ys → set (take j ys ++ drop j (y ∷ ys)) j x ≡ take j ys ++ x ∷ drop j ys
+moved_down x y ys zero l = refl
+moved_down x y [] (suc j) l = absurd (omega arith)
+moved_down x y (z ∷ ys) (suc j) l = ap (λ zs. z ∷ zs) (moved_down x z ys j (omega arith))
 
-insert_on : (x y : Row) (ys : List Row) → y.end ≤ x.end → insert x (y ∷ ys) ≡ y ∷ insert x ys
-unfolding insert
-insert_on x y ys h = ap (λ b. cond b (x ∷ y ∷ ys) (y ∷ insert x ys)) (le-ltb _ _ h)
+-- where the first that ends after it was looked for among sixteen
+pub first_of_sixteen : (x : Row) (ys : List Row) (r : Option ℕ) → length ys ≡ 16 → r ≡ cond (ltb (position_or_len (ends_after x) ys) (length ys)) (Some (position_or_len (ends_after x) ys)) None → unwrap_or r 16 ≡ position_or_len (ends_after x) ys
+first_of_sixteen x ys r l e = let m = prefix_len-le-length (λ z. not (ends_after x z)) ys in grind (arith, nat_tests)
 
-insert-at : (x : Row) (i : ℕ) (ys : List Row) → i < length ys → (get_or ys i blank).end ≤ x.end → insert x (drop i ys) ≡ get_or ys i blank ∷ insert x (drop (i + 1) ys)
-insert-at x i ys l h = ap (insert x) (drop_more ys i blank l) ∙ insert_on x (get_or ys i blank) (drop (i + 1) ys) h
+pub pushed_lowest : (x : Row) (ys : List Row) → position_or_len (ends_after x) ys ≡ 0 → ys ≡ pushed x ys
+pushed_lowest x ys e = let r : insert x ys ≡ x ∷ ys = rw e at (insert_first x ys) in sym (ap (drop 1) r)
 
-set_parts : (x : Row) (i : ℕ) (ys : List Row) → i < length ys → set ys i x ≡ take i ys ++ x ∷ drop (i + 1) ys
-set_parts x i ys l = rw add-one (set_split ys i x l)
-
-pushed_at : (x : Row) (i : ℕ) (ys : List Row) → i < length ys → (get_or ys i blank).end ≤ x.end → pushed x (drop i ys) ≡ insert x (drop (i + 1) ys)
-pushed_at x i ys l h = ap (drop 1) (insert-at x i ys l h)
-
--- it is the lowest
-pub pushed_low : (x : Row) (ys : List Row) → 0 < length ys → x.end < (get_or ys 0 blank).end → ys ≡ pushed x ys
-pushed_low x [] l h = absurd (omega arith)
-pushed_low x (y ∷ ys) l h = sym (ap (drop 1) (insert_here x y ys h))
-
--- its place is found
-pub pushed_here : (x : Row) (i : ℕ) (ys : List Row) → i + 1 < length ys → (get_or ys i blank).end ≤ x.end → x.end < (get_or ys (i + 1) blank).end → set ys i x ≡ take i ys ++ pushed x (drop i ys)
-pushed_here x i ys l h k = let e = set_parts x i ys (omega arith) in let f = pushed_at x i ys (omega arith) h in let g = drop_more ys (i + 1) blank l in let j = insert_here x (get_or ys (i + 1) blank) (drop (i + 1 + 1) ys) k in cc
-
--- the next one moves down
-pub pushed_on : (x : Row) (i : ℕ) (ys : List Row) → i + 1 < length ys → (get_or ys i blank).end ≤ x.end → (get_or ys (i + 1) blank).end ≤ x.end →
-    take (i + 1) (set ys i (get_or ys (i + 1) blank)) ++ pushed x (drop (i + 1) (set ys i (get_or ys (i + 1) blank))) ≡ take i ys ++ pushed x (drop i ys)
-pushed_on x i ys l h k = let z = get_or ys (i + 1) blank in
-    let a = take_more_set ys i z (omega arith) in
-    let b = drop-set-lt (i + 1) ys i z (omega arith) in
-    let e = pushed_at x i ys (omega arith) h in
-    let f = pushed_at x (i + 1) ys l k in
-    let g = insert-at x (i + 1) ys l k in
-    let j = append_assoc (take i ys) (z ∷ []) (insert x (drop (i + 1 + 1) ys)) in cc
-
-pub next-same : (x : Row) (i n : ℕ) (ys : List Row) → (get_or ys (i + 1) blank).end ≤ n → (get_or (set ys i x) (i + 1) blank).end ≤ n
-next-same x i n ys h = let ne : (i + 1 ≡ i → ⊥) = omega arith in rw (get_or-set_other ys i (i + 1) x blank ne) h
-
--- it is the highest
-pub pushed_last : (x : Row) (i : ℕ) (ys : List Row) → i + 1 ≡ length ys → (get_or ys i blank).end ≤ x.end → set ys i x ≡ take i ys ++ pushed x (drop i ys)
-pushed_last x i ys l h = let e = set_parts x i ys (omega arith) in let f = pushed_at x i ys (omega arith) h in let g = drop_all (i + 1) ys (omega arith) in let j = insert_none x in cc
-
-pub measured_none : (upto now : ℕ) (m : Option Measures) → measured_by upto now m [] ≡ m
-unfolding measured_by
-measured_none upto now m = refl
-
-pub measured_more : (upto now i : ℕ) (rows : List Row) (m n : Option Measures) → i < length rows → n ≡ measured_one upto now m (get_or rows i blank) → measured_by upto now n (drop (i + 1) rows) ≡ measured_by upto now m (drop i rows)
-unfolding measured_by
-measured_more upto now i rows m n l e = ap (λ z. measured_by upto now z (drop (i + 1) rows)) e ∙ sym (at_drop_more (measured_by upto now m) rows i blank l)
+pub pushed_above : (x : Row) (ys : List Row) (j : ℕ) → position_or_len (ends_after x) ys ≡ suc j → set (take j (drop 1 ys) ++ drop j ys) j x ≡ pushed x ys
+pushed_above x [] j e = absurd (omega arith)
+pushed_above x (y ∷ ys) j e = let m = prefix_len-le-length (λ z. not (ends_after x z)) (y ∷ ys) in
+    let r = rw e at (insert_first x (y ∷ ys)) in moved_down x y ys j (omega arith) ∙ sym (ap (drop 1) r)

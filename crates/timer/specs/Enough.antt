@@ -1,5 +1,5 @@
 -- Sixteen rows are enough: they tell whether fewer than sixteen texts are under way, and give the same measures, as all rows would.
-use Rattle.std.specs.Prelude.{◌≡◌, ℕ, ◌<◌, ◌≤◌, max, cond, not, ◌⊎◌, List, [], ◌∷◌, ◌++◌, map, length, replicate, Option, nat_lt}
+use Rattle.std.specs.Prelude.{◌≡◌, ℕ, ◌<◌, ◌≤◌, max, not, ◌⊎◌, List, [], ◌∷◌, ◌++◌, map, length, replicate, Option, nat_lt, filter}
 use Rattle.timer.specs.declared.measures.Measures.{Measures}
 use Rattle.timer.specs.declared.flight.Row.{Row}
 use Rattle.timer.specs.Flight.{blank, resent, settled, sent_rows, full, measured_by}
@@ -19,14 +19,13 @@ pub data Move : Type 0 where
   Confirms : ℕ → Move
 
 -- the rows that aren't confirmed
-unfoldable pub beyond : ℕ → List Row → List Row
-beyond u [] = []
-beyond u (r ∷ rs) = cond (nat_lt u r.end) (r ∷ beyond u rs) (beyond u rs)
+abbrev pub beyond : ℕ → List Row → List Row
+beyond u rs = filter (λ r. nat_lt u r.end) rs
 
 abbrev pub moved : Move → Way → Way
-moved (Sends p e now) w = record { upto = w.upto; high = max w.high e; rows = map (resent p e) w.rows ++ record { place = p; end = e; time = now; clean = not (nat_lt p w.high) } ∷ [] }
-moved Clears w = record { upto = w.upto; high = w.high; rows = [] }
-moved (Confirms u) w = record { upto = max w.upto u; high = w.high; rows = beyond (max w.upto u) w.rows }
+moved (Sends p e now) w = record w { high = max w.high e; rows = map (resent p e) w.rows ++ record { place = p; end = e; time = now; clean = not (nat_lt p w.high) } ∷ [] }
+moved Clears w = record w { rows = [] }
+moved (Confirms u) w = record w { upto = max w.upto u; rows = beyond (max w.upto u) w.rows }
 
 -- sixteen rows at the same moves
 abbrev pub held : Move → Way → List Row → List Row

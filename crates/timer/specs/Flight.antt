@@ -1,5 +1,5 @@
 -- Texts with bytes that are under way.
-use Rattle.std.specs.Prelude.{ℕ, ◌-◌, Bool, false, cond, not, ◌&&◌, List, [], ◌∷◌, map, drop, Option, nat_lt, slice_index_or}
+use Rattle.std.specs.Prelude.{ℕ, ◌-◌, Bool, false, cond, not, ◌&&◌, List, [], ◌∷◌, map, drop, Option, nat_lt, slice_index_or, fold}
 use Rattle.timer.specs.declared.measures.Measures.{Measures}
 use Rattle.timer.specs.declared.flight.Row.{Row}
 use Rattle.timer.specs.Measure.{measured}
@@ -9,7 +9,7 @@ abbrev pub blank : Row
 blank = record { place = 0; end = 0; time = 0; clean = false }
 
 abbrev pub unclean : Row → Row
-unclean r = record { place = r.place; end = r.end; time = r.time; clean = false }
+unclean r = record r { clean = false }
 
 -- whether a row has a byte in common with the bytes from p to e
 abbrev pub shares : ℕ → ℕ → Row → Bool
@@ -45,6 +45,5 @@ abbrev pub measured_one : ℕ → ℕ → Option Measures → Row → Option Mea
 measured_one upto now m r = cond (r.clean && not (nat_lt upto r.end)) (measured m (now - r.time)) m
 
 -- rows are measured in their order
-unfoldable pub measured_by : ℕ → ℕ → Option Measures → List Row → Option Measures
-measured_by upto now m [] = m
-measured_by upto now m (r ∷ rs) = measured_by upto now (measured_one upto now m r) rs
+abbrev pub measured_by : ℕ → ℕ → Option Measures → List Row → Option Measures
+measured_by upto now m rs = fold (measured_one upto now) m rs

@@ -1,5 +1,5 @@
 -- When an ask or a yes goes out, and when a connection that isn't open is given up: ticks after the first.
-use Rattle.std.specs.Prelude.{◌≡◌, ℕ, ◌+◌, ◌-◌, ◌*◌, ◌^◌, min, Bool, false, cond, ◌||◌, List, [], ◌∷◌, map, ◌==◌, nat_lt}
+use Rattle.std.specs.Prelude.{◌≡◌, ℕ, ◌+◌, ◌-◌, ◌*◌, ◌^◌, min, Bool, false, cond, ◌||◌, List, [], ◌∷◌, map, ◌==◌, nat_lt, find, unwrap_or}
 
 -- the moments at which it goes out again
 abbrev pub again : List ℕ
@@ -17,8 +17,7 @@ repeats start now = among (now - start) again
 
 -- the first of some moments, in their order, that comes after t, or else d
 abbrev pub first_after : ℕ → List ℕ → ℕ → ℕ
-first_after t [] d = d
-first_after t (m ∷ ms) d = cond (nat_lt t m) m (first_after t ms d)
+first_after t ms d = unwrap_or (find (nat_lt t) ms) d
 
 -- ticks have 64 bits
 abbrev pub last_tick : ℕ

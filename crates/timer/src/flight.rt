@@ -4,7 +4,7 @@ ghost use Rattle.timer.specs.Flight as spec;
 use crate::measures::{Measures, measured};
 
 /// A text with bytes that was sent.
-#[derive(Clone, Copy, PartialEq, Eq, Debug)]
+#[derive(Clone, Copy, PartialEq, Eq, Debug, Default)]
 pub struct Row {
     pub place: u64,
     pub end: u64,
@@ -15,7 +15,7 @@ pub struct Row {
 }
 
 /// The texts under way: of those sent, the sixteen with the largest ends, the lowest first. One is under way if its end isn't confirmed.
-#[derive(Clone, Copy)]
+#[derive(Clone, Copy, PartialEq, Eq, Debug)]
 pub struct Flight {
     pub rows: [Row; 16],
 }
@@ -26,12 +26,7 @@ impl Flight {
         ensures { result.rows ≡ replicate 16 spec.blank }
     {
         Flight {
-            rows: [Row {
-                place: 0,
-                end: 0,
-                time: 0,
-                clean: false,
-            }; 16],
+            rows: [Row::default(); 16],
         }
     }
 
@@ -42,44 +37,36 @@ impl Flight {
         upto < self.rows[0].end
     }
 
+    // `place` and `end` stay two numbers: a `Range` would be taken apart again where a `Row` is made of it.
+
     /// The rows when the bytes from `place` to `end` are sent: those that have one of them aren't clean any more.
     pub fn resent(self, place: u64, end: u64) -> Flight
         ensures { result.rows ≡ map (spec.resent place end) self.rows }
     {
-        let mut rows = self.rows;
-        for i in 0..16 {
-            rows[i] = rows[i].resent(place, end);
+        Flight {
+            rows: self.rows.map(|row| row.resent(place, end)),
         }
-        Flight { rows }
     }
 
     /// The rows when so much is confirmed: those that are confirmed aren't measured again.
     pub fn settled(self, upto: u64) -> Flight
         ensures { result.rows ≡ map (spec.settled upto) self.rows }
     {
-        let mut rows = self.rows;
-        for i in 0..16 {
-            rows[i] = rows[i].settled(upto);
+        Flight {
+            rows: self.rows.map(|row| row.settled(upto)),
         }
-        Flight { rows }
     }
 
     /// A row more, in its place by its end; the one with the lowest end is left out.
     fn pushed(self, row: Row) -> Flight
         ensures { result.rows ≡ spec.pushed row self.rows }
     {
-        if row.end < self.rows[0].end {
-            return self;
-        }
         let mut rows = self.rows;
-        for i in 0..15 {
-            if row.end < rows[i + 1].end {
-                rows[i] = row;
-                return Flight { rows };
-            }
-            rows[i] = rows[i + 1];
+        let above = rows.iter().position(|r| row.end < r.end).unwrap_or(16);
+        if above > 0 {
+            rows.copy_within(1..above, 0);
+            rows[above - 1] = row;
         }
-        rows[15] = row;
         Flight { rows }
     }
 
@@ -100,11 +87,9 @@ impl Flight {
     pub fn measured(self, upto: u64, now: u64, before: Option<Measures>) -> Option<Measures>
         ensures { result ≡ spec.measured_by upto now before self.rows }
     {
-        let mut measures = before;
-        for row in self.rows {
-            measures = row.measured(upto, now, measures);
-        }
-        measures
+        self.rows
+            .iter()
+            .fold(before, |measures, row| row.measured(upto, now, measures))
     }
 }
 

@@ -19,7 +19,7 @@ impl Measures {
     pub fn first(round: u32) -> Measures
         ensures { result ≡ spec.first round }
     {
-        let round = round as u64;
+        let round = u64::from(round);
         Measures {
             mean: 8 * round,
             deviation: 2 * round,
@@ -30,7 +30,7 @@ impl Measures {
     pub fn later(self, round: u32) -> Measures
         ensures { result ≡ spec.later self round }
     {
-        let round = round as u64;
+        let round = u64::from(round);
         let error = (self.mean / 8).abs_diff(round);
         Measures {
             mean: self.mean - self.mean / 8 + round,
@@ -52,11 +52,8 @@ impl Measures {
 pub fn measured(before: Option<Measures>, ticks: u64) -> Option<Measures>
     ensures { result ≡ spec.measured before ticks }
 {
-    let round = ticks.min(u32::MAX as u64) as u32;
-    match before {
-        None => Some(Measures::first(round)),
-        Some(m) => Some(m.later(round)),
-    }
+    let round = u32::try_from(ticks).unwrap_or(u32::MAX);
+    Some(before.map_or_else(|| Measures::first(round), |m| m.later(round)))
 }
 
 /// The waiting time set anew; before the first measure, the shortest.
@@ -64,10 +61,7 @@ pub fn waiting_time(measures: Option<Measures>) -> u64
     ensures exact { result ≡ spec.waiting measures }
     ensures within { spec.Timely result }
 {
-    match measures {
-        None => SHORTEST,
-        Some(m) => m.time(),
-    }
+    measures.map_or(SHORTEST, |m| m.time())
 }
 
 /// The waiting time after a text by the clock.

@@ -1,22 +1,18 @@
-use Rattle.std.proofs.Common.{◌≡◌, ◌+◌, length, get_or, set, sym, ap, ◌∙◌, arith, rules}
-use Rattle.std.proofs.lemmas.List.{length-set}
-use Rattle.timer.specs.Flight.{blank}
-use Rattle.timer.proofs.Rows.{pushed_low, pushed_here, pushed_on, next-same, pushed_last}
+use Rattle.std.proofs.Common.{◌≡◌, ◌+◌, ◌-◌, set, ap, ◌∙◌, rules, arith, tests}
+use Rattle.std.proofs.lemmas.Iterator.{YieldsList-from_slice}
+use Rattle.std.proofs.lemmas.Iterator.Search.{position_from_yields_List}
+use Rattle.timer.proofs.Rows.{ends_after, first_of_sixteen, pushed_lowest, pushed_above}
 use Rattle.timer.proofs.flight.Flight.pushed.Goals as goal
 
-pub returns-then-row-self : goal.returns-then-row-self
-returns-then-row-self c = let n : length c.args.self.rows ≡ 16 = search rules in pushed_low c.args.row c.args.self.rows (omega arith) c.if-row-self.true
+pub returns-then-above-gt0 : goal.returns-then-above-gt0
+returns-then-above-gt0 c =
+    let p = position_from_yields_List (ends_after c.args.row) _ _ c.position.result c.position.ensures.ran (YieldsList-from_slice c.args.self.rows c.iter.ensures.rest) (λ x b q k. search (rules, tests)) in
+    let e = first_of_sixteen c.args.row c.args.self.rows c.position.result (search rules) p in
+    let j = pushed_above c.args.row c.args.self.rows (c.unwrap_or-above.result - 1) (omega (arith, e)) in let z : 0 + (c.unwrap_or-above.result - 1) ≡ c.unwrap_or-above.result - 1 = omega arith in
+    ap (λ rows. set rows (c.unwrap_or-above.result - 1) c.args.row) c.copy_within.ensures.after ∙ rw z j
 
-pub returns-then-row-rows : goal.returns-then-row-rows
-returns-then-row-rows c = pushed_here c.args.row c.loop-i.i c.loop-i.rows (omega (arith, c.loop-i.invariant.0)) c.loop-i.invariant.2 c.if-row-rows.true ∙ c.loop-i.invariant.1
-
-pub loop-i-preserved : goal.loop-i-preserved
-loop-i-preserved c = (
-  simp length-set c.loop-i.invariant.0,
-  pushed_on c.args.row c.loop-i.i c.loop-i.rows (omega (arith, c.loop-i.invariant.0)) c.loop-i.invariant.2 c.if-row-rows.false ∙ c.loop-i.invariant.1,
-  next-same (get_or c.loop-i.rows (c.loop-i.i + 1) blank) c.loop-i.i c.args.row.end c.loop-i.rows c.if-row-rows.false,
-)
-
-pub returns : goal.returns
-returns c = let e : c.loop-i.i ≡ 15 = omega arith in
-    ap (λ k. set c.loop-i.rows k c.args.row) (sym e) ∙ pushed_last c.args.row c.loop-i.i c.loop-i.rows (omega (arith, c.loop-i.invariant.0)) c.loop-i.invariant.2 ∙ c.loop-i.invariant.1
+pub returns-else-above-gt0 : goal.returns-else-above-gt0
+returns-else-above-gt0 c =
+    let p = position_from_yields_List (ends_after c.args.row) _ _ c.position.result c.position.ensures.ran (YieldsList-from_slice c.args.self.rows c.iter.ensures.rest) (λ x b q k. search (rules, tests)) in
+    let e = first_of_sixteen c.args.row c.args.self.rows c.position.result (search rules) p in
+    pushed_lowest c.args.row c.args.self.rows (omega (arith, e))
