@@ -6,10 +6,13 @@ ghost use Rattle.lanes.specs.Order.{Apart, Low};
 
 mod calls;
 
-/// The sixteen lanes in some order: the first `count` are in use, the oldest first, and the others are free.
-#[derive(Clone, Copy)]
+/// How many lanes there are.
+pub const LANES: usize = 16;
+
+/// The lanes in some order: the first `count` are in use, the oldest first, and the others are free.
+#[derive(Clone, Copy, PartialEq, Eq, Debug)]
 pub struct Lanes {
-    order: [u8; 16],
+    order: [u8; LANES],
     count: usize,
     ghost few: { count ≤ 16 },
     ghost sized: { length order ≡ 16 },

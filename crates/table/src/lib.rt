@@ -6,18 +6,18 @@ ghost use Rattle.std.specs.Prelude.{◌≡◌, length};
 mod calls;
 
 use connection::connection::Connection;
-use lanes::Lanes;
+use lanes::{LANES, Lanes};
 
 #[derive(Drop)]
 pub struct Table {
     /// By lane.
-    pub conns: [Connection; 16],
+    pub conns: [Connection; LANES],
     pub lanes: Lanes,
     ghost sized: { length conns ≡ 16 },
 }
 
 /// The connection that a search is for.
-#[derive(Clone, Copy)]
+#[derive(Clone, Copy, PartialEq, Eq, Debug)]
 pub enum Wanted {
     /// It has this tag and is not gone.
     Tag(u64),
