@@ -34,7 +34,7 @@ impl Lanes {
     /// The lane of the i-th in use, the oldest being 0.
     pub fn lane(&self, i: usize) -> usize
         ensures is { result ≡ slice_index self.now.order i }
-        ensures low { result < 16 }
+        ensures low { result < LANES }
     {
         self.order.get(i).map_or(0, |&lane| lane as usize)
     }

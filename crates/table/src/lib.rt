@@ -2,6 +2,7 @@
 #![tactic(auto)]
 
 ghost use Rattle.std.specs.Prelude.{◌≡◌, length};
+ghost use Rattle.lanes.specs.declared.TheConstants.{LANES};
 
 mod calls;
 
@@ -13,7 +14,7 @@ pub struct Table {
     /// By lane.
     pub conns: [Connection; LANES],
     pub lanes: Lanes,
-    ghost sized: { length conns ≡ 16 },
+    ghost sized: { length conns ≡ LANES },
 }
 
 /// The connection that a search is for.
