@@ -1,20 +1,24 @@
--- Orders of sixteen lanes: the first one, a place that is moved to the end of those in use, and the list of those in use.
-use Rattle.std.proofs.Common.{◌≡◌, ℕ, zero, suc, ◌+◌, ◌<◌, ◌≤◌, false, cond, eqb, ltb, List, [], ◌∷◌, length, get_or, set, sym, refl, ap, ◌∙◌, subst, ⊎_elim, arith}
-use Rattle.std.specs.List.{range_with_len}
-use Rattle.std.proofs.lemmas.List.FromFn.{get_or-range_with_len}
-use Rattle.std.proofs.lemmas.List.{get_or_past, get_or-set_other, get_or-set_same, length-set}
-use Rattle.std.proofs.lemmas.Bool.{cases_eq, cases_lt, cond-false, cond-true, eq-eqb, ne_eqb, or_from}
+-- Orders of sixteen lanes: the list of those in use, and a place that is moved to its end.
+use Rattle.std.proofs.Common.{◌≡◌, ℕ, zero, suc, ◌+◌, ◌-◌, ◌<◌, ◌≤◌, false, cond, eqb, ltb, List, [], ◌∷◌, length, reverse, get_or, length-take, Some, None, Option, take, sym, refl, ap, ◌∙◌, arith}
+use Rattle.std.specs.List.{AllWithin, HoldsAt, RotatedLeft}
+use Rattle.std.specs.Option.{MatchOption}
+use Rattle.std.proofs.Math.Seq.{take-suc}
+use Rattle.std.proofs.lemmas.List.{get_or-take, places, reverse-append, reverse-reverse}
 use Rattle.std.proofs.lemmas.Bool.Decides.{nat_tests}
+use borrow.Rule.Slice.PartMut.{put_mid, mid_of}
 use Rattle.lanes.specs.Order.{Apart, Low, front}
-use Rattle.lanes.specs.Used.{Separate, is_in, used, without}
+use Rattle.lanes.specs.Used.{Placed, Separate, is_in, used, without}
 use Rattle.lanes.specs.declared.Lanes.{Lanes}
 
--- the lanes in the order of their numbers
-pub counting_low : Low (range_with_len 0 16)
-counting_low k = ⊎_elim {0, 0, 0} (λ h. omega (arith, get_or-range_with_len 0 16 k 0 h)) (λ h. omega (arith, get_or_past (range_with_len 0 16) k 0 h)) (cases_lt k 16)
+-- the first n in their order, which `front` has the last of first
+pub reverse-take : (n : ℕ) (xs : List ℕ) → n ≤ length xs → reverse (take n xs) ≡ front n xs
+reverse-take zero xs h = refl
+reverse-take (suc n) xs h =
+    let ih = reverse-take n xs (omega arith) in
+    rw (take-suc xs n 0, reverse-append) (ap (λ ys. get_or xs n 0 ∷ ys) ih)
 
-pub counting_apart : Apart (range_with_len 0 16)
-counting_apart j k (hj, hk, e) = omega (arith, get_or-range_with_len 0 16 j 0 hj, get_or-range_with_len 0 16 k 0 hk, e)
+pub take_of : (n : ℕ) (xs ys : List ℕ) → n ≤ length xs → reverse ys ≡ front n xs → ys ≡ take n xs
+take_of n xs ys h e = sym (reverse-reverse ys) ∙ ap reverse (e ∙ sym (reverse-take n xs h)) ∙ reverse-reverse (take n xs)
 
 pub length_front : (n : ℕ) (xs : List ℕ) → length (front n xs) ≡ n
 length_front zero xs = refl
@@ -23,7 +27,7 @@ length_front (suc n) xs = ap suc (length_front n xs)
 -- what stands at no place below n is not among the first n
 pub front_out : (l n : ℕ) (xs : List ℕ) → ((k : ℕ) → k < n → get_or xs k 0 ≡ l → ⊥) → is_in l (front n xs) ≡ false
 front_out l zero xs h = refl
-front_out l (suc n) xs h = or_from (eqb (get_or xs n 0) l) (is_in l (front n xs)) (ne_eqb (get_or xs n 0) l (h n (omega arith))) (front_out l n xs (λ k lt. h k (omega arith)))
+front_out l (suc n) xs h = let r = front_out l n xs (λ k lt. h k (omega arith)) in grind (arith, nat_tests, h n)
 
 -- the first n are lanes, each once
 pub front_separate : (n : ℕ) (xs : List ℕ) → n ≤ 16 → Low xs → Apart xs → Separate (front n xs)
@@ -38,33 +42,6 @@ pub without_out : (l : ℕ) (ks : List ℕ) → is_in l ks ≡ false → without
 without_out l [] h = refl
 without_out l (k ∷ ks) h = let r = without_out l ks in grind (arith, nat_tests)
 
--- places from i on have moved down by one, up to k
-pub record Shifted (xs ys : List ℕ) (i k : ℕ) : Type 0 where
-  pub low : (j : ℕ) → j < i → get_or ys j 0 ≡ get_or xs j 0
-  pub moved : (j : ℕ) → i ≤ j → j < k → get_or ys j 0 ≡ get_or xs (j + 1) 0
-  pub high : (j : ℕ) → k ≤ j → get_or ys j 0 ≡ get_or xs j 0
-  pub size : length ys ≡ length xs
-
-pub shift_none : (xs : List ℕ) (i : ℕ) → Shifted xs xs i i
-shift_none xs i = record { low = λ j h. refl; moved = (λ j a b. absurd (omega arith)); high = (λ j h. refl); size = refl }
-
-pub shift_more : (xs ys : List ℕ) (i k : ℕ) → i ≤ k → k < length xs → Shifted xs ys i k → Shifted xs (set ys k (get_or ys (k + 1) 0)) i (k + 1)
-shift_more xs ys i k le lt s = record {
-  low = (λ j h. let ne : (j ≡ k → ⊥) = omega arith in get_or-set_other ys k j y 0 ne ∙ s.low j h);
-  moved = (λ j a b. ⊎_elim {0, 0, 0}
-      (λ e. ap (λ n. get_or (set ys k y) n 0) e ∙ get_or-set_same ys k y 0 (omega (arith, s.size)) ∙ s.high (k + 1) (omega arith) ∙ ap (λ n. get_or xs (n + 1) 0) (sym e))
-      (λ (ne : j ≡ k → ⊥). get_or-set_other ys k j y 0 ne ∙ s.moved j a (omega arith))
-      (cases_eq j k));
-  high = (λ j h. let ne : (j ≡ k → ⊥) = omega arith in get_or-set_other ys k j y 0 ne ∙ s.high j (omega arith));
-  size = length-set ys k y ∙ s.size;
-}
-  where
-    y : ℕ
-    y = get_or ys (k + 1) 0
-
-pub shift_all : (xs ys : List ℕ) (i k last : ℕ) → last ≤ k → k ≤ last → Shifted xs ys i k → Shifted xs ys i last
-shift_all xs ys i k last a b s = subst (Shifted xs ys i) (let e : k ≡ last = omega arith in e) s
-
 -- where the entry at a place comes from, when the one at i goes to the place last
 abbrev source : ℕ → ℕ → ℕ → ℕ
 source i last j = cond (ltb j i) j (cond (ltb j last) (j + 1) (cond (eqb j last) i j))
@@ -75,28 +52,28 @@ source_one i last j k h e = grind (arith, nat_tests)
 source_low : (i last j : ℕ) → i ≤ last → last < 16 → j < 16 → source i last j < 16
 source_low i last j h l lt = grind (arith, nat_tests)
 
+-- what turning the places from i to last by one leaves at each place
+module _ (xs ys : List ℕ) (i k last : ℕ) (e : i + k ≡ last + 1) (le : i ≤ last) (lt : last < length xs) (size : length ys ≡ length (mid_of i k xs)) (t : RotatedLeft (mid_of i k xs) ys (length (mid_of i k xs)) 1) where
+  long : length (mid_of i k xs) ≡ k
+  long = grind (arith, places)
+
+  at_mid : (m : ℕ) → m < k → get_or (mid_of i k xs) m 0 ≡ get_or xs (i + m) 0
+  at_mid m h = grind (arith, places)
+
+  below : (j : ℕ) → j < i → get_or (put_mid i k xs ys) j 0 ≡ get_or xs j 0
+  below j h = grind (arith, places)
+
+  inside : (j : ℕ) → i ≤ j → j ≤ last → get_or (put_mid i k xs ys) j 0 ≡ get_or ys (j - i) 0
+  inside j h g = grind (arith, places, long)
+
+  above : (j : ℕ) → last < j → get_or (put_mid i k xs ys) j 0 ≡ get_or xs j 0
+  above j h = grind (arith, places, long)
+
+  pub from-turned : (j : ℕ) → get_or (put_mid i k xs ys) j 0 ≡ get_or xs (source i last j) 0
+  from-turned j = grind (arith, nat_tests, long, below j, inside j, above j, t.0 (j - i) 0, t.1 (j - i) 0, at_mid (j - i + 1), at_mid 0)
+
 -- the place i is moved to the place last
-module _ (xs ys : List ℕ) (i last : ℕ) (le : i ≤ last) (lt : last < length xs) (s : Shifted xs ys i last) where
-  abbrev turned : List ℕ
-  turned = set ys last (get_or xs i 0)
-
-  from-source : (j : ℕ) → get_or turned j 0 ≡ get_or xs (source i last j) 0
-  from-source j = ⊎_elim {0, 0, 0} at_last elsewhere (cases_eq j last)
-    where
-      at_last : j ≡ last → get_or turned j 0 ≡ get_or xs (source i last j) 0
-      at_last e =
-          let q : source i last j ≡ i = grind (arith, nat_tests) in
-          ap (λ n. get_or turned n 0) e ∙ get_or-set_same ys last (get_or xs i 0) 0 (omega (arith, s.size)) ∙ ap (λ n. get_or xs n 0) (sym q)
-
-      elsewhere : (j ≡ last → ⊥) → get_or turned j 0 ≡ get_or xs (source i last j) 0
-      elsewhere ne = get_or-set_other ys last j (get_or xs i 0) 0 ne ∙ ⊎_elim {0, 0, 0}
-          (λ h. s.low j h ∙ ap (λ n. get_or xs n 0) (let q : j ≡ source i last j = grind (arith, nat_tests) in q))
-          (λ h. ⊎_elim {0, 0, 0}
-          (λ b. s.moved j h b ∙ ap (λ n. get_or xs n 0) (let q : j + 1 ≡ source i last j = grind (arith, nat_tests) in q))
-          (λ b. s.high j b ∙ ap (λ n. get_or xs n 0) (let q : j ≡ source i last j = grind (arith, nat_tests) in q))
-          (cases_lt j last))
-          (cases_lt j i)
-
+module _ (xs turned : List ℕ) (i last : ℕ) (le : i ≤ last) (from-source : (j : ℕ) → get_or turned j 0 ≡ get_or xs (source i last j) 0) where
   pub turned_low : Low xs → Low turned
   turned_low h k = omega (arith, from-source k, h (source i last k))
 
@@ -106,23 +83,38 @@ module _ (xs ys : List ℕ) (i last : ℕ) (le : i ≤ last) (lt : last < length
 
   front_same : (n : ℕ) → n ≤ i → front n turned ≡ front n xs
   front_same zero h = refl
-  front_same (suc n) h =
-      let a : get_or turned n 0 ≡ get_or xs n 0 = from-source n ∙ ap (λ m. get_or xs m 0) (let q : source i last n ≡ n = grind (arith, nat_tests) in q) in
-      let b = front_same n (omega arith) in cc
-
-  front_here : (n : ℕ) → n ≡ i → front n turned ≡ without (get_or xs i 0) (front (suc n) xs)
-  front_here n e =
-      front_same n (omega arith) ∙
-      sym (cond-true (eqb (get_or xs n 0) (get_or xs i 0)) (front n xs) (get_or xs n 0 ∷ without (get_or xs i 0) (front n xs)) (eq-eqb (get_or xs n 0) (get_or xs i 0) (ap (λ m. get_or xs m 0) e)))
+  front_same (suc n) h = grind (arith, nat_tests, from-source n, front_same n)
 
   pub front_less : last < 16 → Apart xs → (n : ℕ) → i ≤ n → n ≤ last → front n turned ≡ without (get_or xs i 0) (front (suc n) xs)
-  front_less l h zero lo hi = front_here zero (omega arith)
-  front_less l h (suc n) lo hi = ⊎_elim {0, 0, 0} (front_here (suc n)) (later (λ b. front_less l h n b (omega arith))) (cases_eq (suc n) i)
-    where
-      later : (i ≤ n → front n turned ≡ without (get_or xs i 0) (front (suc n) xs)) → (suc n ≡ i → ⊥) → front (suc n) turned ≡ without (get_or xs i 0) (front (suc (suc n)) xs)
-      later ih ne =
-          let a : get_or turned n 0 ≡ get_or xs (suc n) 0 = from-source n ∙ ap (λ m. get_or xs m 0) (let q : source i last n ≡ suc n = grind (arith, nat_tests) in q) in
-          let b : front n turned ≡ without (get_or xs i 0) (front (suc n) xs) = ih (omega arith) in
-          let d : eqb (get_or xs (suc n) 0) (get_or xs i 0) ≡ false = ne_eqb (get_or xs (suc n) 0) (get_or xs i 0) (λ e. ne (h (suc n) i (omega arith, omega arith, e))) in
-          let f : front (suc n) turned ≡ get_or xs (suc n) 0 ∷ without (get_or xs i 0) (front (suc n) xs) = cc in
-          f ∙ sym (cond-false (eqb (get_or xs (suc n) 0) (get_or xs i 0)) (front (suc n) xs) (get_or xs (suc n) 0 ∷ without (get_or xs i 0) (front (suc n) xs)) d)
+  front_less l h zero lo hi = grind (arith, nat_tests)
+  front_less l h (suc n) lo hi = grind (arith, nat_tests, from-source n, front_same (suc n), front_less l h n, h (suc n) i)
+
+-- the lane at place i of the first n is let go
+pub record LetGo (xs zs : List ℕ) (i n : ℕ) : Type 0 where
+  pub sized : length zs ≡ length xs
+  pub low : Low zs
+  pub apart : Apart zs
+  pub less : front (n - 1) zs ≡ without (get_or xs i 0) (front n xs)
+
+pub let_go : (xs ys : List ℕ) (i n : ℕ) → i < n → n ≤ 16 → length xs ≡ 16 → Low xs → Apart xs →
+    length ys ≡ length (mid_of i (n - i) xs) → RotatedLeft (mid_of i (n - i) xs) ys (length (mid_of i (n - i) xs)) 1 → LetGo xs (put_mid i (n - i) xs ys) i n
+let_go xs ys i zero h few sized low apart size t = absurd (omega arith)
+let_go xs ys i (suc n) h few sized low apart size t =
+    let s = from-turned xs ys i (suc n - i) n (omega arith) (omega arith) (omega arith) size t in
+    let q : suc n - 1 ≡ n = omega arith in record {
+      sized = grind (arith, places);
+      low = turned_low xs _ i n (omega arith) s low;
+      apart = turned_apart xs _ i n (omega arith) s (omega arith) apart;
+      less = ap (λ m. front m (put_mid i (suc n - i) xs ys)) q ∙ front_less xs _ i n (omega arith) s (omega arith) apart n (omega arith) (omega arith);
+    }
+
+-- a search among the lanes in use finds the place of one
+pub placed : (x : Lanes) (l : ℕ) (xs : List ℕ) (r : Option ℕ) → reverse xs ≡ used x →
+    MatchOption r (AllWithin (λ k. k ≡ l → ⊥) xs 0 (length xs)) (λ i. (i < length xs) × HoldsAt (λ k. k ≡ l) xs i × AllWithin (λ k. k ≡ l → ⊥) xs 0 i) → Placed x l r
+placed x l xs None e h =
+    let t = take_of x.count x.order xs (omega (arith, x.few, x.sized)) e in
+    front_out l x.count x.order (λ k lt q. h k 0 (omega arith) (omega (arith, ap length t, length-take x.count x.order, x.few, x.sized)) (ap (λ ys. get_or ys k 0) t ∙ get_or-take x.count x.order k 0 lt ∙ q))
+placed x l xs (Some i) e (lt, at, _) =
+    let t = take_of x.count x.order xs (omega (arith, x.few, x.sized)) e in
+    let le : i < x.count = omega (arith, ap length t, length-take x.count x.order) in
+    (le, sym (get_or-take x.count x.order i 0 le) ∙ ap (λ ys. get_or ys i 0) (sym t) ∙ at 0)

@@ -1,7 +1,9 @@
-ghost use Rattle.std.specs.Prelude.{◌≡◌, ◌<◌, [], slice_index};
+ghost use Rattle.std.specs.Prelude.{◌≡◌, ◌<◌, [], reverse, slice_index};
+ghost use Rattle.std.specs.List.{All};
 ghost use Rattle.lanes.specs.Used.{Added, Placed, used, without};
 
-use crate::Lanes;
+use crate::{LANES, Lanes};
+use std::array;
 
 impl Lanes {
     /// No lane in use.
@@ -9,7 +11,7 @@ impl Lanes {
         ensures { used result ≡ [] }
     {
         Lanes {
-            order: [0, 1, 2, 3, 4, 5, 6, 7, 8, 9, 10, 11, 12, 13, 14, 15],
+            order: array::from_fn(|i| i as u8),
             count: 0,
         }
     }
@@ -21,53 +23,45 @@ impl Lanes {
         self.count
     }
 
+    /// The lanes in use, the oldest first.
+    pub fn in_use(&self) -> &[u8]
+        ensures order { reverse result.now ≡ used self.now }
+        ensures low { All (λ l. l < LANES) result.now }
+    {
+        &self.order[..self.count]
+    }
+
     /// The lane of the i-th in use, the oldest being 0.
     pub fn lane(&self, i: usize) -> usize
         ensures is { result ≡ slice_index self.now.order i }
-        ensures low { result < 16 }
+        ensures low { result < LANES }
     {
-        if i < 16 { self.order[i] as usize } else { 0 }
+        self.order.get(i).map_or(0, |&lane| lane as usize)
     }
 
     /// A free lane comes into use, as the youngest; None where all sixteen are in use.
     pub fn add(&mut self) -> Option<usize>
         ensures { Added self.old self.new result }
     {
-        if self.count >= 16 {
-            return None;
-        }
-        let lane = self.order[self.count] as usize;
+        let lane = *self.order.get(self.count)?;
         self.count += 1;
-        Some(lane)
+        Some(lane as usize)
     }
 
     /// Where a lane in use stands by age.
     fn position(&self, lane: usize) -> Option<usize>
         ensures { Placed self.now lane result }
     {
-        for i in 0..self.count {
-            if self.order[i] as usize == lane {
-                return Some(i);
-            }
-        }
-        None
+        self.in_use().iter().position(|&l| l as usize == lane)
     }
 
     /// A lane is free again, and those younger move down; nothing changes where it is not in use.
     pub fn remove(&mut self, lane: usize)
         ensures { used self.new ≡ without lane (used self.old) }
     {
-        let Some(i) = self.position(lane) else {
-            return;
-        };
-        let last = self.count - 1;
-        let mut order = self.order;
-        let freed = order[i];
-        for k in i..last {
-            order[k] = order[k + 1];
+        if let Some(i) = self.position(lane) {
+            self.order[i..self.count].rotate_left(1);
+            self.count -= 1;
         }
-        order[last] = freed;
-        self.order = order;
-        self.count = last;
     }
 }

@@ -3,16 +3,21 @@
 
 ghost use Rattle.std.specs.Prelude.{◌≡◌, ◌≤◌, length};
 ghost use Rattle.lanes.specs.Order.{Apart, Low};
+ghost use Rattle.lanes.specs.declared.TheConstants.{LANES};
 
 mod calls;
 
-/// The sixteen lanes in some order: the first `count` are in use, the oldest first, and the others are free.
-#[derive(Clone, Copy)]
+/// How many lanes there are.
+pub const LANES: usize = 16;
+
+// An array with a length beside it, for nothing is on a heap here; the free lanes stand behind those in use, so that one is found at once.
+/// The lanes in some order: the first `count` are in use, the oldest first, and the others are free.
+#[derive(Clone, Copy, PartialEq, Eq, Debug)]
 pub struct Lanes {
-    order: [u8; 16],
+    order: [u8; LANES],
     count: usize,
-    ghost few: { count ≤ 16 },
-    ghost sized: { length order ≡ 16 },
+    ghost few: { count ≤ LANES },
+    ghost sized: { length order ≡ LANES },
     ghost low: { Low order },
     ghost apart: { Apart order },
 }

@@ -1,7 +1,8 @@
 -- What a search among lanes finds is what the model finds; and what a write to a lane, a lane more and a lane less are in the model.
-use Rattle.std.proofs.Common.{◌≡◌, ℕ, suc, ◌+◌, ◌<◌, Bool, true, false, cond, not, ◌&&◌, ◌||◌, eqb, List, [], ◌∷◌, length, Some, None, Option, sym, refl, ap, ◌∙◌, subst, ⊎_elim, arith}
+use Rattle.std.proofs.Common.{◌≡◌, ℕ, suc, ◌+◌, ◌<◌, Bool, true, false, cond, not, ◌&&◌, eqb, List, [], ◌∷◌, length, Some, None, Option, sym, refl, ap, ◌∙◌, subst, ⊎_elim, arith}
 use mathlib.Core.List.{Memᴰ}
-use Rattle.std.proofs.lemmas.Bool.{and_right, cases_eq, cond-false, cond-true, eq-eqb, eqb-true, false≢true, ne_eqb, or_cases, or_left, or_right}
+use Rattle.std.proofs.lemmas.Bool.{and_right, cases_eq, eq-eqb, eqb-true, false≢true, or_cases, or_left, or_right}
+use Rattle.std.proofs.lemmas.Bool.Decides.{nat_tests}
 use Rattle.hold.specs.Code.{living}
 use Rattle.hold.specs.Conn.{Conn}
 use Rattle.hold.specs.Promise.{tags}
@@ -9,24 +10,29 @@ use Rattle.hold.specs.World.{is_in as is_tag, Found, NotThere, There, change, go
 use Rattle.lanes.specs.Used.{Separate, is_in, without}
 use Rattle.table.specs.Housed.{Housed, forgot, held, left, none, seek}
 
+first_in : (l : ℕ) (ls : List ℕ) → is_in l (l ∷ ls) ≡ true
+first_in l ls = grind (arith, nat_tests)
+
+later_in : (k l : ℕ) (ls : List ℕ) → is_in k ls ≡ true → is_in k (l ∷ ls) ≡ true
+later_in k l ls m = or_right (eqb l k) (is_in k ls) m
+
 -- what is found is there, and passes
 pub seek_finds : (test : ℕ → Bool) (l : ℕ) (ls : List ℕ) → Some l ≡ seek test ls → (is_in l ls ≡ true) × (test l ≡ true)
-seek_finds test l [] e = let z : ◌≡◌ {A = ℕ} 0 1 = cc in absurd (omega arith)
+seek_finds test l [] e = absurd cc
 seek_finds test l (k ∷ ks) e = go (test k) refl (seek_finds test l ks)
   where
     go : (b : Bool) → test k ≡ b → (Some l ≡ seek test ks → (is_in l ks ≡ true) × (test l ≡ true)) → (is_in l (k ∷ ks) ≡ true) × (test l ≡ true)
     go true t ih =
-        let e2 : Some l ≡ Some k = e ∙ cond-true (test k) (Some k) (seek test ks) t in
+        let e2 = rw t at e in
         let e3 : k ≡ l = cc in
-        (or_left (eqb k l) (is_in l ks) (eq-eqb k l e3), ap test (sym e3) ∙ t)
-    go false t ih = let r = ih (e ∙ cond-false (test k) (Some k) (seek test ks) t) in (or_right (eqb k l) (is_in l ks) r.0, r.1)
+        (grind (arith, nat_tests), cc)
+    go false t ih = let r = ih (rw t at e) in (later_in l k ks r.0, r.1)
 
 -- of those that do not pass none is found, and the other way round
 pub seek_none : (test : ℕ → Bool) (ls : List ℕ) → ((l : ℕ) → is_in l ls ≡ true → test l ≡ false) → None ≡ seek test ls
 seek_none test [] h = refl
 seek_none test (k ∷ ks) h =
-    seek_none test ks (λ l m. h l (or_right (eqb k l) (is_in l ks) m)) ∙
-    sym (cond-false (test k) (Some k) (seek test ks) (h k (or_left (eqb k k) (is_in k ks) (eq-eqb k k refl))))
+    rw (h k (first_in k ks)) (seek_none test ks (λ l m. h l (later_in l k ks m)))
 
 -- what was found is what the model found
 abbrev pub Agree : (ℕ → Conn → Type 0) → Option ℕ → Found → Type 0
@@ -41,25 +47,23 @@ module _ (P Q : ℕ → Conn → Type 0) (test : ℕ → Bool) (mtest : Conn →
       {ls : List ℕ} {cs : List Conn} → Housed P Q ls cs → Agree P (seek test ls) (by cs)
   agree by by_none by-more none = subst (Agree P None) (sym by_none) tt
   agree by by_none by-more {ls} (forgot {c = c} {cs = cs} g t) =
-      subst (Agree P (seek test ls)) (sym (by-more c cs ∙ cond-false (mtest c) (There c) (by cs) (skip c g))) (agree by by_none by-more t)
+      rw (by-more c cs, skip c g) (agree by by_none by-more t)
   agree by by_none by-more (left {l = l} {ls = ls} {c = c} {cs = cs} g q t) =
-      let e : by (c ∷ cs) ≡ by cs = by-more c cs ∙ cond-false (mtest c) (There c) (by cs) (skip c g) in
-      let f : seek test (l ∷ ls) ≡ seek test ls = cond-false (test l) (Some l) (seek test ls) (skips l c q) in
-      subst (λ (o : Option ℕ). Agree P o (by (c ∷ cs))) (sym f) (subst (Agree P (seek test ls)) (sym e) (agree by by_none by-more t))
+      rw (by-more c cs, skip c g, skips l c q) (agree by by_none by-more t)
   agree by by_none by-more (held {l = l} {ls = ls} {c = c} {cs = cs} p t) = subst (Agree P (seek test (l ∷ ls))) (sym (by-more c cs)) (go (mtest c) refl (agree by by_none by-more t))
     where
       go : (b : Bool) → mtest c ≡ b → Agree P (seek test ls) (by cs) → Agree P (seek test (l ∷ ls)) (cond (mtest c) (There c) (by cs))
-      go true e ih = rw (cond-true (test l) (Some l) (seek test ls) (same l c p ∙ e), cond-true (mtest c) (There c) (by cs) e) p
-      go false e ih = rw (cond-false (test l) (Some l) (seek test ls) (same l c p ∙ e), cond-false (mtest c) (There c) (by cs) e) ih
+      go true e ih = rw (same l c p, e) p
+      go false e ih = rw (same l c p, e) ih
 
 -- what the model found, by what was found
 pub not_there : (P : ℕ → Conn → Type 0) (o : Option ℕ) (m : Found) → None ≡ o → Agree P o m → m ≡ NotThere
 not_there P None NotThere e a = refl
 not_there P None (There c) e a = absurd a
-not_there P (Some l) m e a = let z : ◌≡◌ {A = ℕ} 0 1 = cc in absurd (omega arith)
+not_there P (Some l) m e a = absurd cc
 
 pub is_there_lem : (P : ℕ → Conn → Type 0) (o : Option ℕ) (m : Found) (l : ℕ) → Some l ≡ o → Agree P o m → (c : Conn) × (m ≡ There c) × P l c
-is_there_lem P None m l e a = let z : ◌≡◌ {A = ℕ} 0 1 = cc in absurd (omega arith)
+is_there_lem P None m l e a = absurd cc
 is_there_lem P (Some k) NotThere l e a = absurd a
 is_there_lem P (Some k) (There c) l e a = let q : k ≡ l = cc in (c, refl, subst (λ j. P j c) q a)
 
@@ -69,9 +73,9 @@ pub carry : (P Q P' Q' : ℕ → Conn → Type 0) {ls : List ℕ} {cs : List Con
 carry P Q P' Q' p q none = none
 carry P Q P' Q' p q (forgot g t) = forgot g (carry P Q P' Q' p q t)
 carry P Q P' Q' p q (left {l = l} {ls = ls} {c = c} g r t) =
-    left g (q l c (or_left (eqb l l) (is_in l ls) (eq-eqb l l refl)) r) (carry P Q P' Q' (λ k d m. p k d (or_right (eqb l k) (is_in k ls) m)) (λ k d m. q k d (or_right (eqb l k) (is_in k ls) m)) t)
+    left g (q l c (first_in l ls) r) (carry P Q P' Q' (λ k d m. p k d (later_in k l ls m)) (λ k d m. q k d (later_in k l ls m)) t)
 carry P Q P' Q' p q (held {l = l} {ls = ls} {c = c} r t) =
-    held (p l c (or_left (eqb l l) (is_in l ls) (eq-eqb l l refl)) r) (carry P Q P' Q' (λ k d m. p k d (or_right (eqb l k) (is_in k ls) m)) (λ k d m. q k d (or_right (eqb l k) (is_in k ls) m)) t)
+    held (p l c (first_in l ls) r) (carry P Q P' Q' (λ k d m. p k d (later_in k l ls m)) (λ k d m. q k d (later_in k l ls m)) t)
 
 -- two lanes differ, if one of them is among some and the other is not
 differ : (i l : ℕ) (ls : List ℕ) → is_in l ls ≡ false → is_in i ls ≡ true → l ≡ i → ⊥
@@ -95,44 +99,36 @@ module _ (P Q P' Q' : ℕ → Conn → Type 0) (tag : ℕ) (f : Conn → Conn) (
   module _ (i : ℕ) (acts : (c : Conn) → P i c → P' i (f c)) (still : (l : ℕ) (c : Conn) → (l ≡ i → ⊥) → P l c → P' l c) (still_q : (l : ℕ) (c : Conn) → (l ≡ i → ⊥) → Q l c → Q' l c) where
     pub changes : {ls : List ℕ} {cs : List Conn} → Separate ls → Some i ≡ seek test ls → Housed P Q ls cs → Housed P' Q' ls (change tag f cs)
     unfolding change
-    changes s e none = let z : ◌≡◌ {A = ℕ} 0 1 = cc in absurd (omega arith)
+    changes s e none = absurd cc
     changes {ls} s e (forgot {c = c} {cs = cs} g t) =
-        subst (Housed P' Q' ls) (sym (cond-false (tagged tag c) (f c ∷ cs) (c ∷ change tag f cs) (tagged-gone tag c g))) (forgot g (changes s e t))
+        rw (tagged-gone tag c g) (forgot g (changes s e t))
     changes s e (left {l = l} {ls = ls} {c = c} {cs = cs} g q t) =
-        let e2 : Some i ≡ seek test ls = e ∙ cond-false (test l) (Some l) (seek test ls) (skips l c q) in
-        subst (Housed P' Q' (l ∷ ls)) (sym (cond-false (tagged tag c) (f c ∷ cs) (c ∷ change tag f cs) (tagged-gone tag c g)))
-        (left g (still_q l c (differ i l ls s.1 (seek_finds test i ls e2).0) q) (changes s.2 e2 t))
+        let e2 = rw (skips l c q) at e in
+        rw (tagged-gone tag c g) (left g (still_q l c (differ i l ls s.1 (seek_finds test i ls e2).0) q) (changes s.2 e2 t))
     changes s e (held {l = l} {ls = ls} {c = c} {cs = cs} p t) = go (tagged tag c) refl (λ q. changes s.2 q t)
       where
         go : (b : Bool) → tagged tag c ≡ b → (Some i ≡ seek test ls → Housed P' Q' ls (change tag f cs)) → Housed P' Q' (l ∷ ls) (cond (tagged tag c) (f c ∷ cs) (c ∷ change tag f cs))
         go true b ih =
-            let e2 : Some i ≡ Some l = e ∙ cond-true (test l) (Some l) (seek test ls) (same l c p ∙ b) in
+            let e2 = rw (same l c p, b) at e in
             let e3 : i ≡ l = cc in
-            subst (Housed P' Q' (l ∷ ls)) (sym (cond-true (tagged tag c) (f c ∷ cs) (c ∷ change tag f cs) b))
-            (held (subst (λ k. P' k (f c)) e3 (acts c (subst (λ k. P k c) (sym e3) p))) (elsewhere P Q P' Q' i still still_q (ap (λ k. is_in k ls) e3 ∙ s.1) t))
+            rw b (held (subst (λ k. P' k (f c)) e3 (acts c (subst (λ k. P k c) (sym e3) p))) (elsewhere P Q P' Q' i still still_q (ap (λ k. is_in k ls) e3 ∙ s.1) t))
         go false b ih =
-            let e2 : Some i ≡ seek test ls = e ∙ cond-false (test l) (Some l) (seek test ls) (same l c p ∙ b) in
-            subst (Housed P' Q' (l ∷ ls)) (sym (cond-false (tagged tag c) (f c ∷ cs) (c ∷ change tag f cs) b))
-            (held (still l c (differ i l ls s.1 (seek_finds test i ls e2).0) p) (ih e2))
+            let e2 = rw (same l c p, b) at e in
+            rw b (held (still l c (differ i l ls s.1 (seek_finds test i ls e2).0) p) (ih e2))
 
   -- nobody has the tag: nothing changes
   pub unchanged : {ls : List ℕ} {cs : List Conn} → None ≡ seek test ls → Housed P Q ls cs → Housed P Q ls (change tag f cs)
   unfolding change
   unchanged e none = none
   unchanged {ls} e (forgot {c = c} {cs = cs} g t) =
-      subst (Housed P Q ls) (sym (cond-false (tagged tag c) (f c ∷ cs) (c ∷ change tag f cs) (tagged-gone tag c g))) (forgot g (unchanged e t))
+      rw (tagged-gone tag c g) (forgot g (unchanged e t))
   unchanged e (left {l = l} {ls = ls} {c = c} {cs = cs} g q t) =
-      subst (Housed P Q (l ∷ ls)) (sym (cond-false (tagged tag c) (f c ∷ cs) (c ∷ change tag f cs) (tagged-gone tag c g)))
-      (left g q (unchanged (e ∙ cond-false (test l) (Some l) (seek test ls) (skips l c q)) t))
+      rw (tagged-gone tag c g) (left g q (unchanged (rw (skips l c q) at e) t))
   unchanged e (held {l = l} {ls = ls} {c = c} {cs = cs} p t) = go (tagged tag c) refl (λ q. unchanged q t)
     where
       go : (b : Bool) → tagged tag c ≡ b → (None ≡ seek test ls → Housed P Q ls (change tag f cs)) → Housed P Q (l ∷ ls) (cond (tagged tag c) (f c ∷ cs) (c ∷ change tag f cs))
-      go true b ih =
-          let e2 : None ≡ Some l = e ∙ cond-true (test l) (Some l) (seek test ls) (same l c p ∙ b) in
-          let z : ◌≡◌ {A = ℕ} 0 1 = cc in absurd (omega arith)
-      go false b ih =
-          subst (Housed P Q (l ∷ ls)) (sym (cond-false (tagged tag c) (f c ∷ cs) (c ∷ change tag f cs) b))
-          (held p (ih (e ∙ cond-false (test l) (Some l) (seek test ls) (same l c p ∙ b))))
+      go true b ih = let e2 = rw (same l c p, b) at e in absurd cc
+      go false b ih = rw b (held p (ih (rw (same l c p, b) at e)))
 
 -- a lane whose connection is gone is let go
 pub taken_out : (P Q : ℕ → Conn → Type 0) (i : ℕ) → ((c : Conn) → P i c → gone c.phase ≡ true) → {ls : List ℕ} {cs : List Conn} → Housed P Q ls cs → Housed P Q (without i ls) cs
@@ -166,10 +162,10 @@ module _ (P Q P' Q' : ℕ → Conn → Type 0) (i : ℕ) (over : (c : Conn) → 
   )
 
   later : (l : ℕ) (ls : List ℕ) → is_in i (l ∷ ls) ≡ true → (l ≡ i → ⊥) → is_in i ls ≡ true
-  later l ls m ne = ap (λ b. b || is_in i ls) (sym (ne_eqb l i ne)) ∙ m
+  later l ls m ne = grind (arith, nat_tests)
 
   pub spent : {ls : List ℕ} {cs : List Conn} → Separate ls → is_in i ls ≡ true → Housed P Q ls cs → Spent ls cs
-  spent s m none = absurd (false≢true m)
+  spent s m none = absurd cc
   spent s m (forgot g t) = let r = spent s m t in also (forgot g r.0) r.1
   spent s m (left {l = l} {ls = ls} {c = c} {cs = cs} g q t) = ⊎_elim {0, 0, 0} it (away (λ n. spent s.2 n t)) (cases_eq l i)
     where
@@ -192,20 +188,20 @@ pub all_live : (P Q : ℕ → Conn → Type 0) {ls : List ℕ} {cs : List Conn} 
 unfolding living
 all_live P Q p q none = refl
 all_live P Q p q (forgot {c = c} {cs = cs} g t) = ap (λ b. cond b 0 1 + living cs) g ∙ (let i = all_live P Q p q t in omega arith)
-all_live P Q p q (left {l = l} {ls = ls} {c = c} g r t) = absurd (q l c (or_left (eqb l l) (is_in l ls) (eq-eqb l l refl)) r)
+all_live P Q p q (left {l = l} {ls = ls} {c = c} g r t) = absurd (q l c (first_in l ls) r)
 all_live P Q p q (held {l = l} {ls = ls} {c = c} {cs = cs} r t) =
-    let i = all_live P Q (λ k d m. p k d (or_right (eqb l k) (is_in k ls) m)) (λ k d m. q k d (or_right (eqb l k) (is_in k ls) m)) t in
-    ap (λ b. cond b 0 1 + living cs) (p l c (or_left (eqb l l) (is_in l ls) (eq-eqb l l refl)) r) ∙ (let e : 1 + living cs ≡ suc (length ls) = omega arith in e)
+    let i = all_live P Q (λ k d m. p k d (later_in k l ls m)) (λ k d m. q k d (later_in k l ls m)) t in
+    ap (λ b. cond b 0 1 + living cs) (p l c (first_in l ls) r) ∙ (let e : 1 + living cs ≡ suc (length ls) = omega arith in e)
 
 -- each lane is a lane
 pub lane_low : (l : ℕ) (ls : List ℕ) → Separate ls → is_in l ls ≡ true → l < 16
-lane_low l [] s m = absurd (false≢true m)
-lane_low l (k ∷ ks) s m = ⊎_elim {0, 0, 0} (λ h. subst (λ j. j < 16) (eqb-true k l h) s.0) (λ h. lane_low l ks s.2 h) (or_cases (eqb k l) (is_in l ks) m)
+lane_low l [] s m = absurd cc
+lane_low l (k ∷ ks) s m = let r = lane_low l ks s.2 in grind (arith, nat_tests, s.0)
 
 -- the tag of whatever lives in a lane is one of the model's tags
 pub lane_tag : (P Q : ℕ → Conn → Type 0) (l t : ℕ) → ((c : Conn) → P l c → c.mine ≡ t) → ((c : Conn) → Q l c → c.mine ≡ t) → {ls : List ℕ} {cs : List Conn} → is_in l ls ≡ true → Housed P Q ls cs → is_tag t (tags cs) ≡ true
 unfolding is_tag tags
-lane_tag P Q l t p q m none = absurd (false≢true m)
+lane_tag P Q l t p q m none = absurd cc
 lane_tag P Q l t p q m (forgot {c = c} {cs = cs} g h) = or_right (eqb c.mine t) (is_tag t (tags cs)) (lane_tag P Q l t p q m h)
 lane_tag P Q l t p q m (left {l = k} {ls = ls} {c = c} {cs = cs} g r h) = ⊎_elim {0, 0, 0}
     (λ e. or_left (eqb c.mine t) (is_tag t (tags cs)) (eq-eqb c.mine t (q c (subst (λ j. Q j c) (eqb-true k l e) r))))

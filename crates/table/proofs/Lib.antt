@@ -1,4 +1,3 @@
 pub mod Housing
-pub mod Rooms
 pub mod Searches
 pub mod Lodging

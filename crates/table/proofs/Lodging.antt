@@ -1,5 +1,5 @@
 -- A table as the model's list of connections: what it finds, and what its changes are.
-use Rattle.std.proofs.Common.{◌≡◌, ℕ, ◌<◌, Bool, true, false, not, ◌&&◌, eqb, ltb, List, ◌∷◌, length, get_or, set, is_some, Some, None, Option, sym, refl, ap, ◌∙◌, subst, ⊎_elim, arith}
+use Rattle.std.proofs.Common.{◌≡◌, ℕ, ◌<◌, Bool, true, false, not, ◌&&◌, eqb, ltb, List, ◌∷◌, length, set, is_some, Some, None, Option, sym, refl, ap, ◌∙◌, subst, ⊎_elim, arith}
 use mathlib.Core.List.{Memᴰ}
 use Rattle.std.proofs.lemmas.List.{get_or-set_other, get_or-set_same}
 use Rattle.std.proofs.lemmas.Bool.{and_left, and_parts, and_right, cond_both, eqb-true, false≢true, ltb-false, or_cases, or_parts}
@@ -72,21 +72,21 @@ module _ (cfg : Settings) (mem : ℕ → Rings) (x : Table) {cs : List Conn} (h 
     Q' = LeftIn cfg mem' (set x.conns l z)
 
     still : (k : ℕ) (c : Conn) → (k ≡ l → ⊥) → P k c → P' k c
-    still k c ne s = subst (λ (a : Rings). Stand1 cfg (get_or (set x.conns l z) k blank) a c) (sym (others k ne)) (subst (λ (y : Connection). Stand1 cfg y (mem k) c) (sym (get_or-set_other x.conns l k z blank ne)) s)
+    still k c ne s = rw (others k ne, get_or-set_other x.conns l k z blank ne) s
 
     still_q : (k : ℕ) (c : Conn) → (k ≡ l → ⊥) → Q k c → Q' k c
-    still_q k c ne s = subst (λ (a : Rings). LeftOver cfg (get_or (set x.conns l z) k blank) a c) (sym (others k ne)) (subst (λ (y : Connection). LeftOver cfg y (mem k) c) (sym (get_or-set_other x.conns l k z blank ne)) s)
+    still_q k c ne s = rw (others k ne, get_or-set_other x.conns l k z blank ne) s
 
     -- the table with that lane
     module _ (y : Table) (ec : y.conns ≡ set x.conns l z) where
       moved : {ls : List ℕ} {ds : List Conn} → used y.lanes ≡ ls → Housed P' Q' ls ds → Lodges cfg mem' y ds
-      moved {ls} {ds} en t = subst (λ ks. Housed (InLane cfg mem' y.conns) (LeftIn cfg mem' y.conns) ks ds) (sym en) (subst (λ (zs : List Connection). Housed (InLane cfg mem' zs) (LeftIn cfg mem' zs) ls ds) (sym ec) t)
+      moved en t = rw (en, ec) t
 
       -- the connection of a tag is changed
       pub changed-lane : (t : ℕ) (f : Conn → Conn) → used y.lanes ≡ used x.lanes → Some l ≡ finds (Tag t) x → ActsAs cfg (at x l) (mem l) z (mem' l) f → Lodges cfg mem' y (change t f cs)
       changed-lane t f en e acts = moved en
           (changes P Q P' Q' t f (λ k. has_tag t (at x k).pairing) (λ k c. same_tag cfg t (at x k) c) (λ k c q. tag_gone t (at x k) q.phase) l
-          (λ c s. subst (λ (w : Connection). Stand1 cfg w (mem' l) (f c)) (sym (get_or-set_same x.conns l z blank (low l (seek_finds (λ k. has_tag t (at x k).pairing) l (used x.lanes) e).0))) (acts c s))
+          (λ c s. rw (get_or-set_same x.conns l z blank (low l (seek_finds (λ k. has_tag t (at x k).pairing) l (used x.lanes) e).0)) (acts c s))
           still still_q (used_separate x.lanes) e h)
 
   -- nobody has the tag
@@ -99,8 +99,7 @@ module _ (cfg : Settings) (mem : ℕ → Rings) (x : Table) {cs : List Conn} (h 
 
   pub removed : (y : Table) (l : ℕ) → is_gone (at x l) ≡ true → y.conns ≡ x.conns → used y.lanes ≡ without l (used x.lanes) → Lodges cfg mem y cs
   removed y l g ec en =
-      subst (λ ks. Housed (InLane cfg mem y.conns) (LeftIn cfg mem y.conns) ks cs) (sym en)
-      (subst (λ (zs : List Connection). Housed (InLane cfg mem zs) (LeftIn cfg mem zs) (without l (used x.lanes)) cs) (sym ec) (taken_out P Q l (over l g) h))
+      rw (en, ec) (taken_out P Q l (over l g) h)
 
   -- those that stay when one more is wanted
   remaining : Housed P Q (remain x) cs
@@ -113,7 +112,7 @@ module _ (cfg : Settings) (mem : ℕ → Rings) (x : Table) {cs : List Conn} (h 
   -- one more is added
   pub grown : (y : Table) (mem' : ℕ → Rings) (l : ℕ) (z : Connection) (c : Conn) → Grown x y z (Some l) → ((k : ℕ) → (k ≡ l → ⊥) → mem' k ≡ mem k) → Stand1 cfg z (mem' l) c → Lodges cfg mem' y (c ∷ cs)
   grown y mem' l z c (_, lt, out, en, ec) others s = moved mem' l z others y ec en
-      (held (subst (λ (w : Connection). Stand1 cfg w (mem' l) c) (sym (get_or-set_same x.conns l z blank (let q : l < length x.conns = omega (arith, x.sized) in q))) s)
+      (held (rw (get_or-set_same x.conns l z blank (let q : l < length x.conns = omega (arith, x.sized) in q)) s)
       (elsewhere P Q (P' mem' l z others) (Q' mem' l z others) l (still mem' l z others) (still_q mem' l z others) out remaining))
 
   -- where there is no room, sixteen live
@@ -127,7 +126,7 @@ module _ (cfg : Settings) (mem : ℕ → Rings) (x : Table) {cs : List Conn} (h 
     where
       none_there : (o : Option ℕ) → is_some o ≡ false → None ≡ o
       none_there None b = refl
-      none_there (Some l) b = absurd (false≢true (sym b))
+      none_there (Some l) b = absurd cc
 
   -- a tag that is there is one of the model's
   pub there : (t : ℕ) → is_there t x ≡ true → is_tag t (tags cs) ≡ true
@@ -137,13 +136,13 @@ module _ (cfg : Settings) (mem : ℕ → Rings) (x : Table) {cs : List Conn} (h 
       mine_of l q m = lane_tag P Q l t (λ c s. ap (λ (d : Conn). d.mine) (sym s.is) ∙ q) (λ c s. sym s.mine ∙ q) m h
 
       living-one : (o : Option ℕ) → finds (Tag t) x ≡ o → is_some o ≡ true → is_tag t (tags cs) ≡ true
-      living-one None q b = absurd (false≢true b)
+      living-one None q b = absurd cc
       living-one (Some l) q b =
           let f = seek_finds (λ k. has_tag t (at x k).pairing) l (used x.lanes) (sym q) in
           mine_of l (eqb-true (at x l).pairing.mine t (and_parts (eqb (at x l).pairing.mine t) (not (is_gone (at x l))) f.1).0) f.0
 
       gone_one : (o : Option ℕ) → finds (Gone t) x ≡ o → is_some o ≡ true → is_tag t (tags cs) ≡ true
-      gone_one None q b = absurd (false≢true b)
+      gone_one None q b = absurd cc
       gone_one (Some l) q b =
           let f = seek_finds (λ k. meets (Gone t) (at x k)) l (used x.lanes) (sym q) in
           mine_of l (eqb-true (at x l).pairing.mine t (and_parts (is_gone (at x l)) (eqb (at x l).pairing.mine t) f.1).1) f.0
@@ -152,6 +151,6 @@ module _ (cfg : Settings) (mem : ℕ → Rings) (x : Table) {cs : List Conn} (h 
   pub drained : (y : Table) (mem' : ℕ → Rings) (l : ℕ) (z : Connection) → ((k : ℕ) → (k ≡ l → ⊥) → mem' k ≡ mem k) → is_in l (used x.lanes) ≡ true → is_gone (at x l) ≡ true → y.conns ≡ set x.conns l z → used y.lanes ≡ used x.lanes →
       ((c : Conn) → LeftOver cfg (at x l) (mem l) c → LeftOver cfg z (mem' l) c) → Lodges cfg mem' y cs × ((d : Conn) × Memᴰ d cs × (gone d.phase ≡ true) × LeftOver cfg (at x l) (mem l) d)
   drained y mem' l z others m g ec en less-of =
-      let r = spent P Q (P' mem' l z others) (Q' mem' l z others) l (λ c s. (over l g c s, left_of cfg (at x l) c g s)) (λ c q. subst (λ (w : Connection). LeftOver cfg w (mem' l) c) (sym (get_or-set_same x.conns l z blank (low l m))) (less-of c q))
+      let r = spent P Q (P' mem' l z others) (Q' mem' l z others) l (λ c s. (over l g c s, left_of cfg (at x l) c g s)) (λ c q. rw (get_or-set_same x.conns l z blank (low l m)) (less-of c q))
       (still mem' l z others) (still_q mem' l z others) (used_separate x.lanes) m h in
       (moved mem' l z others y ec en r.0, r.1)

@@ -39,6 +39,10 @@ abbrev pub or_else : Option ℕ → Option ℕ → Option ℕ
 or_else (Some k) o = Some k
 or_else None o = o
 
+-- the lane of a tag: of the connection that has it, or else of one that had it
+abbrev pub lane_of : ℕ → Table → Option ℕ
+lane_of t x = or_else (finds (Tag t) x) (finds (Gone t) x)
+
 -- the last of some lanes that passes a test
 abbrev pub eldest : (ℕ → Bool) → List ℕ → Option ℕ
 eldest test [] = None

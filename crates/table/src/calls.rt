@@ -1,12 +1,12 @@
-ghost use Rattle.std.specs.Prelude.{◌≡◌, ◌<◌, true, false, [], length};
+ghost use Rattle.std.specs.Prelude.{◌≡◌, []};
 ghost use Rattle.lanes.specs.Used.{used, without};
-ghost use Rattle.table.specs.Search.{finds, Within, has_room, is_there, meets, oldest_gone};
-ghost use Rattle.table.specs.Grows.{Grown, remain};
+ghost use Rattle.table.specs.Search.{finds, Within, has_room, is_there, lane_of, meets, oldest_gone};
+ghost use Rattle.table.specs.Grows.{Grown};
 
 use crate::{Table, Wanted};
 use connection::connection::Connection;
 use connection::phase::Phase;
-use lanes::Lanes;
+use lanes::{LANES, Lanes};
 
 impl Wanted {
     fn fits(self, c: &Connection) -> bool
@@ -26,7 +26,7 @@ impl Table {
     {
         let nobody = Connection::new(Phase::Gone, 0, 0);
         Table {
-            conns: [nobody; 16],
+            conns: [nobody; LANES],
             lanes: Lanes::new(),
         }
     }
@@ -36,54 +36,46 @@ impl Table {
         ensures is { result ≡ finds wanted self.now }
         ensures within { Within result }
     {
-        for i in (0..self.lanes.count()).rev() {
-            let lane = self.lanes.lane(i);
-            let c = self.conns[lane];
-            if wanted.fits(&c) {
-                return Some(lane);
-            }
-        }
-        None
+        self.lanes
+            .in_use()
+            .iter()
+            .rev()
+            .map(|&lane| lane as usize)
+            .find(|&lane| wanted.fits(&self.conns[lane]))
+    }
+
+    /// The lane of the connection that has a tag, or else of the youngest that had it and is gone.
+    pub fn lane_of(&self, tag: u64) -> Option<usize>
+        ensures is { result ≡ lane_of tag self.now }
+        ensures within { Within result }
+    {
+        self.find(Wanted::Tag(tag))
+            .or_else(|| self.find(Wanted::Gone(tag)))
     }
 
     /// Whether a connection has a tag, or had it and is gone.
     pub fn has(&self, tag: u64) -> bool
         ensures { result ≡ is_there tag self.now }
     {
-        if let Some(_) = self.find(Wanted::Tag(tag)) {
-            return true;
-        }
-        if let Some(_) = self.find(Wanted::Gone(tag)) {
-            return true;
-        }
-        false
+        self.lane_of(tag).is_some()
     }
 
     /// The lane of the oldest connection that is gone.
     fn oldest_gone(&self) -> Option<usize>
         ensures { result ≡ oldest_gone self.now }
     {
-        for i in 0..self.lanes.count() {
-            let lane = self.lanes.lane(i);
-            let c = self.conns[lane];
-            if c.pairing.is_gone() {
-                return Some(lane);
-            }
-        }
-        None
+        self.lanes
+            .in_use()
+            .iter()
+            .map(|&lane| lane as usize)
+            .find(|&lane| self.conns[lane].pairing.is_gone())
     }
 
     /// Whether one more can be added.
     pub fn has_room(&self) -> bool
         ensures { result ≡ has_room self.now }
     {
-        if self.lanes.count() < 16 {
-            return true;
-        }
-        match self.oldest_gone() {
-            Some(_) => true,
-            None => false,
-        }
+        self.lanes.count() < LANES || self.oldest_gone().is_some()
     }
 
     /// A lane is free again.
@@ -94,36 +86,15 @@ impl Table {
         self.lanes.remove(lane);
     }
 
-    /// Where no lane is free the oldest connection that is gone is forgotten; whether there is a free lane then.
-    fn make_room(&mut self) -> bool
-        ensures is { result ≡ has_room self.old }
-        ensures lanes { used self.new.lanes ≡ remain self.old }
-        ensures conns { self.new.conns ≡ self.old.conns }
-        ensures free { result ≡ true → length (used self.new.lanes) < 16 }
-        ensures same { result ≡ false → self.new ≡ self.old }
-    {
-        if self.lanes.count() < 16 {
-            return true;
-        }
-        match self.oldest_gone() {
-            Some(lane) => {
-                self.lanes.remove(lane);
-                true
-            }
-            None => false,
-        }
-    }
-
     /// A connection more, in a lane that was free, as the youngest. Where none is free the oldest connection that is gone is forgotten for it, and if none is gone nothing changes.
     pub fn add(&mut self, c: Connection) -> Option<usize>
         ensures { Grown self.old self.new c result }
     {
-        if !self.make_room() {
-            return None;
+        if self.lanes.count() == LANES {
+            let oldest = self.oldest_gone()?;
+            self.lanes.remove(oldest);
         }
-        let Some(lane) = self.lanes.add() else {
-            return None;
-        };
+        let lane = self.lanes.add()?;
         self.conns[lane] = c;
         Some(lane)
     }

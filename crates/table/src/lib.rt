@@ -2,22 +2,23 @@
 #![tactic(auto)]
 
 ghost use Rattle.std.specs.Prelude.{◌≡◌, length};
+ghost use Rattle.lanes.specs.declared.TheConstants.{LANES};
 
 mod calls;
 
 use connection::connection::Connection;
-use lanes::Lanes;
+use lanes::{LANES, Lanes};
 
 #[derive(Drop)]
 pub struct Table {
     /// By lane.
-    pub conns: [Connection; 16],
+    pub conns: [Connection; LANES],
     pub lanes: Lanes,
-    ghost sized: { length conns ≡ 16 },
+    ghost sized: { length conns ≡ LANES },
 }
 
 /// The connection that a search is for.
-#[derive(Clone, Copy)]
+#[derive(Clone, Copy, PartialEq, Eq, Debug)]
 pub enum Wanted {
     /// It has this tag and is not gone.
     Tag(u64),
