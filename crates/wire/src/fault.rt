@@ -37,7 +37,7 @@ impl From<UnknownKind> for Fault {
     ghost from_gives = { λ _ fault. fault ≡ Shape };
 
     fn from(_kind: UnknownKind) -> Fault {
-        Fault::Shape
+        Self::Shape
     }
 }
 
@@ -71,7 +71,7 @@ impl From<Fault> for WriteError {
     ghost from_gives = { λ fault error. error ≡ Refused fault };
 
     fn from(fault: Fault) -> WriteError {
-        WriteError::Refused(fault)
+        Self::Refused(fault)
     }
 }
 
