@@ -1,6 +1,6 @@
 -- CRC-32C bit by bit. The bytes are a polynomial over two elements, the lowest bit of each byte first, and the register is what is left of it
 -- by division: its bit 31 - k stands for x^k, so that a step down is a product with x.
-use Rattle.std.specs.Prelude.{ℕ, ◌*◌, ◌/◌, ◌%◌, ◌<◌, List, [], ◌∷◌, bit_xor, slice_index}
+use Rattle.std.specs.Prelude.{ℕ, ◌*◌, ◌/◌, ◌%◌, ◌<◌, List, fold, bit_xor, slice_index}
 
 -- the generator 1EDC6F41, read from its other end
 abbrev pub generator : ℕ
@@ -18,8 +18,7 @@ unfoldable pub byte_step : ℕ → ℕ → ℕ
 byte_step c b = eight_steps (bit_xor c b)
 
 abbrev pub register_after : ℕ → List ℕ → ℕ
-register_after c [] = c
-register_after c (b ∷ bs) = register_after (byte_step c b) bs
+register_after c bs = fold byte_step c bs
 
 -- the check: the register is all ones at first, and turned at last
 abbrev pub crc_of : List ℕ → ℕ

@@ -1,3 +1,4 @@
 pub mod Sizes
 pub mod Packets
+pub mod Kinds
 pub mod Agreed

@@ -1,13 +1,17 @@
 ghost use Rattle.std.specs.Prelude.{◌≡◌};
 ghost use Rattle.hold.specs.Packet.{bare};
-ghost use Rattle.packet.specs.Packets.{packet, kind_of};
+ghost use Rattle.packet.specs.Kinds.{KindIn, kind_number};
+ghost use Rattle.packet.specs.Packets.{Viewed, packet, kind_of};
+
+use std::error::Error;
+use std::fmt;
 
 /// Most bytes of one text.
 pub const SIZE: usize = 1024;
 
 /// What a packet is: an ask opens a connection (a SYN), a yes answers it (a SYN-ACK), a text brings bytes and
 /// acknowledgements, a bye ends a connection (a RST).
-#[derive(Clone, Copy)]
+#[derive(Clone, Copy, PartialEq, Eq, Debug)]
 pub enum Kind {
     Ask,
     Yes,
@@ -15,8 +19,61 @@ pub enum Kind {
     Bye,
 }
 
+/// A byte that stands for no kind.
+#[derive(Clone, Copy, PartialEq, Eq, Debug)]
+pub struct UnknownKind(pub u8);
+
+/// The byte that stands for a kind.
+impl From<Kind> for u8 {
+    ghost from_gives = { λ kind byte. byte ≡ kind_number (kind_of kind) };
+
+    fn from(kind: Kind) -> u8 {
+        match kind {
+            Kind::Ask => 1,
+            Kind::Yes => 2,
+            Kind::Text => 3,
+            Kind::Bye => 4,
+        }
+    }
+}
+
+impl TryFrom<u8> for Kind {
+    type Error = UnknownKind;
+
+    ghost try_from_gives = { KindIn };
+
+    fn try_from(byte: u8) -> Result<Kind, UnknownKind> {
+        match byte {
+            1 => Ok(Kind::Ask),
+            2 => Ok(Kind::Yes),
+            3 => Ok(Kind::Text),
+            4 => Ok(Kind::Bye),
+            _ => Err(UnknownKind(byte)),
+        }
+    }
+}
+
+impl fmt::Display for Kind {
+    fn fmt<W: fmt::Write>(&self, f: &mut fmt::Formatter<W>) -> fmt::Result {
+        f.write_str(match self {
+            Kind::Ask => "ask",
+            Kind::Yes => "yes",
+            Kind::Text => "text",
+            Kind::Bye => "bye",
+        })
+    }
+}
+
+impl fmt::Display for UnknownKind {
+    fn fmt<W: fmt::Write>(&self, f: &mut fmt::Formatter<W>) -> fmt::Result {
+        write!(f, "no kind of packet has the number {}", self.0)
+    }
+}
+
+impl Error for UnknownKind {}
+
 /// All of a packet but its text.
-#[derive(Clone, Copy)]
+#[derive(Clone, Copy, PartialEq, Eq, Debug)]
 pub struct Head {
     pub kind: Kind,
     /// The sender's tag, its number of the connection.
@@ -35,8 +92,17 @@ pub struct Head {
     pub edge: u64,
 }
 
+/// A packet whose text stands in memory of someone else.
+#[derive(Clone, Copy, PartialEq, Eq, Debug)]
+pub struct PacketRef<'a> {
+    pub head: Head,
+    pub text: &'a [u8],
+}
+
 /// A packet to be sent; its text is the first `count` bytes of `text`.
-#[derive(Clone, Copy)]
+// A buffer with a count beside it, since the project has no heap. The type doesn't hold that `count` is at most SIZE: that would ask more of
+// whoever makes one. No `==` is derived: it would compare what stands behind the text too; compare what `view` gives.
+#[derive(Clone, Copy, Debug)]
 pub struct Packet {
     pub head: Head,
     pub text: [u8; SIZE],
@@ -63,5 +129,15 @@ impl Packet {
             text: [0; SIZE],
             count: 0,
         }
+    }
+    /// The packet with its text as a slice. None where `count` is more than the buffer has.
+    pub fn view(&self) -> Option<PacketRef<'_>>
+        ensures { Viewed self.now result }
+    {
+        let text = self.text.get(..self.count)?;
+        Some(PacketRef {
+            head: self.head,
+            text,
+        })
     }
 }

@@ -3,8 +3,11 @@
 #![tactic(auto)]
 
 use crc32c::{crc32c, extend};
-use packet::packet::{Head, Kind, Packet};
-use wire::format::{read, write};
+use packet::packet::{Head, Kind, Packet, PacketRef};
+use std::array;
+use std::fmt;
+use wire::fault::WriteError;
+use wire::format::{FRAME, read, write};
 
 /// A read command of iSCSI.
 const READ: [u8; 48] = [
@@ -12,30 +15,22 @@ const READ: [u8; 48] = [
     0x14, 0, 0, 0, 0x18, 0x28, 0, 0, 0, 0, 0, 0, 0, 0x02, 0, 0, 0, 0, 0, 0, 0,
 ];
 
+/// The bytes from 0 up.
 fn rising() -> [u8; 32] {
-    let mut bytes = [0; 32];
-    for i in 0..32 {
-        bytes[i] = i as u8;
-    }
-    bytes
+    array::from_fn(|i| i as u8)
 }
 
+/// The bytes down to 0.
 fn falling() -> [u8; 32] {
-    let mut bytes = [0; 32];
-    for i in 0..32 {
-        bytes[i] = (31 - i) as u8;
-    }
+    let mut bytes = rising();
+    bytes.reverse();
     bytes
 }
 
 /// The register after so many times 4,096 bytes that are all one.
 fn many(count: u32, byte: u8) -> u32 {
     let block = [byte; 4096];
-    let mut register = 0xffff_ffff;
-    for _ in 0..count {
-        register = extend(register, &block);
-    }
-    register
+    (0..count).fold(0xffff_ffff, |register, _| extend(register, &block))
 }
 
 fn text_head() -> Head {
@@ -51,59 +46,57 @@ fn text_head() -> Head {
     }
 }
 
-/// 0 where bytes are a packet, else the number of the fault.
-fn number(bytes: &[u8]) -> u8 {
-    match read(bytes) {
-        Ok(_) => 0,
-        Err(fault) => fault.number(),
+/// Bytes, printed as 0 where they are a packet, and else as the number of their fault.
+#[derive(Clone, Copy)]
+struct Verdict<'a>(&'a [u8]);
+
+impl fmt::Display for Verdict<'_> {
+    fn fmt<W: fmt::Write>(&self, f: &mut fmt::Formatter<W>) -> fmt::Result {
+        match read(self.0) {
+            Ok(_) => f.write_str("0"),
+            Err(fault) => write!(f, "{}", u8::from(fault)),
+        }
     }
 }
 
 fn show(rt: &HostRuntime, head: Head, text: &[u8]) -> anyhow::Result<()> {
     let mut out = [0u8; 64];
-    let Some(count) = write(head, text, &mut out) else {
+    let Ok(count) = write(PacketRef { head, text }, &mut out) else {
         println!(rt; "not written")?;
         return Ok(());
     };
-    if count > 64 {
-        return Ok(());
-    }
-    for b in &out[..count] {
+    let bytes = out.get(..count).unwrap_or(&out);
+    for b in bytes {
         print!(rt; "{:02x}", *b)?;
     }
-    println!(rt; " {}", number(&out[..count]))?;
+    println!(rt; " {}", Verdict(bytes))?;
     Ok(())
 }
 
 /// A packet of 51 bytes with one of them changed.
-fn damaged(at: usize, byte: u8) -> u8 {
+fn damaged(at: usize, byte: u8) -> Result<[u8; 51], WriteError> {
     let mut out = [0u8; 51];
-    if write(text_head(), b"abc", &mut out).is_none() || at >= 51 {
-        return 0;
+    let p = PacketRef {
+        head: text_head(),
+        text: b"abc",
+    };
+    write(p, &mut out)?;
+    if let Some(b) = out.get_mut(at) {
+        *b = byte;
     }
-    out[at] = byte;
-    number(&out)
+    Ok(out)
 }
 
-/// Changes a byte and makes the check anew.
-fn forge(bytes: &mut [u8], at: usize, byte: u8) {
-    if bytes.len() < 4 || at >= bytes.len() - 4 {
-        return;
+/// A packet without text, with a byte changed and the check made anew.
+fn forged(head: Head, at: usize, byte: u8) -> Result<[u8; FRAME], WriteError> {
+    let mut out = [0u8; FRAME];
+    write(PacketRef { head, text: b"" }, &mut out)?;
+    let (body, check) = out.split_at_mut(FRAME - 4);
+    if let Some(b) = body.get_mut(at) {
+        *b = byte;
     }
-    bytes[at] = byte;
-    let end = bytes.len() - 4;
-    let check = crc32c(&bytes[..end]).to_be_bytes();
-    bytes[end..end + 4].copy_from_slice(&check);
-}
-
-/// A packet without text, forged.
-fn forged(head: Head, at: usize, byte: u8) -> u8 {
-    let mut out = [0u8; 48];
-    if write(head, b"", &mut out).is_none() {
-        return 0;
-    }
-    forge(&mut out, at, byte);
-    number(&out)
+    check.copy_from_slice(&crc32c(body).to_be_bytes());
+    Ok(out)
 }
 
 fn checks(rt: &HostRuntime) -> anyhow::Result<()> {
@@ -125,16 +118,14 @@ fn main(rt: HostRuntime) -> anyhow::Result<()> {
     show(&rt, text_head(), b"abc")?;
     show(&rt, Packet::bare(Kind::Bye, 9, 7).head, b"")?;
     show(&rt, Packet::bare(Kind::Bye, 9, 0).head, b"")?;
-    println!(rt; "kind {}", damaged(0, 5))?;
-    println!(rt; "count {}", damaged(3, 4))?;
-    println!(rt; "text {}", damaged(45, 0))?;
-    println!(rt; "none {}", number(b""))?;
-    println!(rt; "flags {}", forged(text_head(), 1, 4))?;
-    println!(rt;
-        "stray {}",
-        forged(Packet::bare(Kind::Yes, 9, 7).head, 43, 1)
-    )?;
-    println!(rt; "place {}", forged(text_head(), 20, 0x41))?;
-    println!(rt; "same {}", forged(text_head(), 0, 3))?;
+    println!(rt; "kind {}", Verdict(&damaged(0, 5)?))?;
+    println!(rt; "count {}", Verdict(&damaged(3, 4)?))?;
+    println!(rt; "text {}", Verdict(&damaged(45, 0)?))?;
+    println!(rt; "none {}", Verdict(b""))?;
+    println!(rt; "flags {}", Verdict(&forged(text_head(), 1, 4)?))?;
+    let yes = Packet::bare(Kind::Yes, 9, 7).head;
+    println!(rt; "stray {}", Verdict(&forged(yes, 43, 1)?))?;
+    println!(rt; "place {}", Verdict(&forged(text_head(), 20, 0x41)?))?;
+    println!(rt; "same {}", Verdict(&forged(text_head(), 0, 3)?))?;
     Ok(())
 }

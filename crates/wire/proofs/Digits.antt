@@ -1,6 +1,8 @@
 -- Numbers and their bytes, there and back.
 use Rattle.std.proofs.Common.{◌≡◌, ℕ, zero, suc, ◌+◌, ◌*◌, ◌/◌, ◌%◌, ◌^◌, ◌<◌, ◌≤◌, List, [], ◌∷◌, length, get_or, take, drop, refl, ap, ◌∙◌, arith}
 use Rattle.std.proofs.lemmas.List.{drop_more, drop_all}
+use Rattle.std.proofs.lemmas.Grind.{common_steps}
+use Rattle.std.specs.Int.{w32, from_be_bytes}
 use Rattle.crc32c.specs.Crc.{Bytes}
 use Rattle.crc32c.proofs.Bounds.{Each, none, more}
 use Rattle.wire.specs.Numbers.{number16, number32, number64, bytes2, bytes4, bytes8}
@@ -74,6 +76,9 @@ reads_are zero s at h = refl
 reads_are (suc n) s at h =
     let l : at < length s = omega arith in
     ap (take (suc n)) (drop_more s at 0 l) ∙ ap (λ t. get_or s at 0 ∷ t) (reads_are n s (at + 1) (omega arith))
+
+pub number32_is : (s xs : List ℕ) (at : ℕ) → at + 4 ≤ length s → xs ≡ take 4 (drop at s) → from_be_bytes w32 xs ≡ number32 s at
+number32_is s xs at h e = rw e (grind (arith, common_steps))
 
 pub last4 : (s : List ℕ) (at : ℕ) → length s ≡ at + 4 → drop at s ≡ from4 s at
 last4 s at h =

@@ -1,4 +1,3 @@
-pub mod Judged
 pub mod Behind
 pub mod Took
 pub mod Digits

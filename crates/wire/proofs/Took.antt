@@ -8,7 +8,8 @@ use Rattle.packet.specs.declared.packet.Kind.{Kind}
 use Rattle.wire.specs.declared.fault.Fault.{Fault}
 use Rattle.wire.specs.declared.fault.Fault.TheVariants.{Shape, Check, Zero}
 use Rattle.wire.specs.Numbers.{number16, number32}
-use Rattle.wire.specs.Format.{check_fits, decode, decode_fields, decode_from, fault_in, fields_of, kind_in, length_fits, unless}
+use Rattle.packet.specs.Kinds.{kind_in}
+use Rattle.wire.specs.Format.{check_fits, decode, decode_fields, decode_from, fault_in, fields_of, length_fits, unless}
 
 pub record Took (s : List ℕ) (p : m.Packet) : Type 0 where
   pub kind : Kind

@@ -12,7 +12,8 @@ use Rattle.packet.specs.declared.packet.Kind.TheVariants.{Ask, Yes, Text, Bye}
 use Rattle.wire.specs.declared.fault.Fault.{Fault}
 use Rattle.wire.specs.declared.fault.Fault.TheVariants.{Zero, Range}
 use Rattle.wire.specs.Numbers.{number16, number32, number64, bytes2, bytes4, bytes8}
-use Rattle.wire.specs.Format.{Written, covered, decode, encode, fault_in, fields_of, flags_of, header_of, is_none, kind_in, kind_number, range_fault, sound, stray_field, tag_fault, most_place, most_edge}
+use Rattle.packet.specs.Kinds.{kind_in, kind_number}
+use Rattle.wire.specs.Format.{Written, covered, decode, encode, fault_in, fields_of, flags_of, header_of, is_none, range_fault, sound, stray_field, tag_fault, most_place, most_edge}
 use Rattle.wire.specs.Laws.{Fits, ReadsBack, WasWritten}
 use Rattle.wire.proofs.Digits.{number64-bytes8, number32-bytes4, number16-bytes2, bytes8_are, bytes8-number64, bytes4-number32, bytes2-number16, reads_are, last4}
 use Rattle.wire.proofs.Took.{Took, took, takes}
@@ -185,6 +186,6 @@ pub was_written : (s : List ℕ) (r : Result m.Packet Fault) → Bytes s → r �
 was_written s (Ok p) h e = read_is_written_lem s p h (sym e)
 was_written s (Err f) h e = tt
 
-pub reads_back : (p : m.Packet) (before after : List ℕ) (n : ℕ) → Fits p → Written p before after (Some n) → ReadsBack p after (Some n)
+pub reads_back : (p : m.Packet) (before after : List ℕ) (n : ℕ) → Fits p → Written p before after (Ok n) → ReadsBack p after (Ok n)
 reads_back p before after n f (s, count, e) =
     ap (λ t. decode (take n t)) e ∙ ap decode (take_at (encode p) (drop n before) n (encode-length p ∙ sym count)) ∙ written_is_read_lem p f s

@@ -1,15 +1,17 @@
 -- A packet in bytes, all numbers high byte first:
 -- kind (1 byte), flags (1), count (2), from (8), to (8), place (8), upto (8), edge (8), the text's bytes, check (4) over all before it.
-use Rattle.std.specs.Prelude.{◌≡◌, ℕ, ◌+◌, ◌-◌, ◌*◌, ◌/◌, ◌%◌, ◌^◌, Bool, true, false, cond, not, ◌&&◌, ◌||◌, List, ◌∷◌, ◌++◌, length, take, drop, Some, None, Ok, Err, Option, Result, ◌==◌, nat_le, nat_lt, slice_index}
+use Rattle.std.specs.Prelude.{◌≡◌, ℕ, ◌+◌, ◌-◌, ◌*◌, ◌/◌, ◌%◌, ◌^◌, ◌<◌, ◌≤◌, Bool, true, false, cond, not, ◌&&◌, ◌||◌, List, ◌∷◌, ◌++◌, length, take, drop, Some, None, Ok, Err, Option, Result, ◌==◌, nat_le, nat_lt, slice_index}
 use Rattle.hold.specs.Packet as m
 use Rattle.crc32c.specs.Crc.{crc_of}
 use Rattle.packet.specs.Packets.{kind_of}
+use Rattle.packet.specs.Kinds.{kind_in, kind_number}
 use Rattle.packet.specs.Sizes.{text_size}
 use Rattle.packet.specs.declared.packet.Kind.{Kind}
-use Rattle.packet.specs.declared.packet.Kind.TheVariants.{Ask, Yes, Text, Bye}
 use Rattle.wire.specs.Numbers.{number16, number32, number64, bytes2, bytes4, bytes8}
 use Rattle.wire.specs.declared.fault.Fault.{Fault}
 use Rattle.wire.specs.declared.fault.Fault.TheVariants.{Shape, Check, Zero, Range}
+use Rattle.wire.specs.declared.fault.WriteError.{WriteError}
+use Rattle.wire.specs.declared.fault.WriteError.TheVariants.{LongText, Refused, ShortRoom}
 
 abbrev pub fault_number : Fault → ℕ
 fault_number Shape = 1
@@ -20,15 +22,6 @@ fault_number Range = 4
 -- bytes of a packet without its text: the fields before it and the check
 abbrev pub frame : ℕ
 frame = 48
-
-abbrev pub kind_number : m.Kind → ℕ
-kind_number m.Ask = 1
-kind_number m.Yes = 2
-kind_number m.Text = 3
-kind_number m.Bye = 4
-
-abbrev pub kind_in : ℕ → Option Kind
-kind_in b = cond (b == 1) (Some Ask) (cond (b == 2) (Some Yes) (cond (b == 3) (Some Text) (cond (b == 4) (Some Bye) None)))
 
 -- last is bit 0, all is bit 1
 abbrev pub flags_of : Bool → Bool → ℕ
@@ -127,7 +120,13 @@ encode p = covered p ++ bytes4 (crc_of (covered p))
 abbrev pub sound : m.Packet → Bool
 sound p = nat_le (length p.text) text_size && is_none (fault_in p)
 
+-- why a packet is not written where there is room for so many bytes
+abbrev pub Unwritten : m.Packet → ℕ → WriteError → Type 0
+Unwritten p room LongText = text_size < length p.text
+Unwritten p room (Refused f) = (length p.text ≤ text_size) × (Some f ≡ fault_in p)
+Unwritten p room ShortRoom = (sound p ≡ true) × (room < frame + length p.text)
+
 -- what a write to the front of some bytes leaves there, and answers
-abbrev pub Written : m.Packet → List ℕ → List ℕ → Option ℕ → Type 0
-Written p before after None = (after ≡ before) × (sound p && nat_le (frame + length p.text) (length before) ≡ false)
-Written p before after (Some n) = (sound p ≡ true) × (n ≡ frame + length p.text) × (after ≡ encode p ++ drop n before)
+abbrev pub Written : m.Packet → List ℕ → List ℕ → Result ℕ WriteError → Type 0
+Written p before after (Err e) = (after ≡ before) × (sound p && nat_le (frame + length p.text) (length before) ≡ false) × Unwritten p (length before) e
+Written p before after (Ok n) = (sound p ≡ true) × (n ≡ frame + length p.text) × (after ≡ encode p ++ drop n before)

@@ -1,8 +1,9 @@
 -- What holds of packets and their bytes.
-use Rattle.std.specs.Prelude.{◌≡◌, ℕ, ◌-◌, ◌*◌, ◌^◌, ◌<◌, ◌≤◌, true, List, ◌++◌, length, take, drop, Some, None, Ok, Err, Option, Result, ◌≢◌, bit_xor}
+use Rattle.std.specs.Prelude.{◌≡◌, ℕ, ◌-◌, ◌*◌, ◌^◌, ◌<◌, ◌≤◌, true, List, ◌++◌, length, take, drop, Ok, Err, Result, ◌≢◌, bit_xor}
 use Rattle.hold.specs.Packet as m
 use Rattle.wire.specs.declared.fault.Fault.{Fault}
 use Rattle.wire.specs.declared.fault.Fault.TheVariants.{Shape}
+use Rattle.wire.specs.declared.fault.WriteError.{WriteError}
 use Rattle.crc32c.specs.Crc.{Bytes}
 use Rattle.crc32c.specs.Distance.{OneRun, bits_apart, number_of}
 use Rattle.wire.specs.Format.{decode, encode, sound}
@@ -14,9 +15,9 @@ pub record Fits (p : m.Packet) : Type 0 where
   pub text : Bytes p.text
 
 -- what was written to the front of some bytes is read back
-abbrev pub ReadsBack : m.Packet → List ℕ → Option ℕ → Type 0
-ReadsBack p after None = Unit
-ReadsBack p after (Some n) = decode (take n after) ≡ Ok p
+abbrev pub ReadsBack : m.Packet → List ℕ → Result ℕ WriteError → Type 0
+ReadsBack p after (Err e) = Unit
+ReadsBack p after (Ok n) = decode (take n after) ≡ Ok p
 
 -- bytes that were read were written so
 abbrev pub WasWritten : List ℕ → Result m.Packet Fault → Type 0

@@ -1,0 +1,19 @@
+-- The byte that stands for a kind.
+use Rattle.std.specs.Prelude.{◌≡◌, ℕ, cond, Some, None, Option, Result, ◌==◌, MatchResult}
+use Rattle.hold.specs.Packet as m
+use Rattle.packet.specs.declared.packet.Kind.{Kind}
+use Rattle.packet.specs.declared.packet.Kind.TheVariants.{Ask, Yes, Text, Bye}
+use Rattle.packet.specs.declared.packet.UnknownKind.{UnknownKind}
+
+abbrev pub kind_number : m.Kind → ℕ
+kind_number m.Ask = 1
+kind_number m.Yes = 2
+kind_number m.Text = 3
+kind_number m.Bye = 4
+
+abbrev pub kind_in : ℕ → Option Kind
+kind_in b = cond (b == 1) (Some Ask) (cond (b == 2) (Some Yes) (cond (b == 3) (Some Text) (cond (b == 4) (Some Bye) None)))
+
+-- the kind that a byte stands for, or the byte that stands for none
+abbrev pub KindIn : ℕ → Result Kind UnknownKind → Type 0
+KindIn b r = MatchResult r (λ k. Some k ≡ kind_in b) (λ e. (e.0 ≡ b) × (None ≡ kind_in b))
