@@ -1,10 +1,13 @@
-use Rattle.std.proofs.Common.{◌+◌, not, sym, ap, ◌∙◌, arith}
-use Rattle.lent.proofs.Words.{not-up, not_down}
+use Rattle.std.proofs.Common.{◌≡◌, ◌-◌, ◌^◌, cond, sym, ap, ◌∙◌, arith}
+use Rattle.lent.proofs.Words.{run_all, run_gap}
 use Rattle.lent.proofs.bits.run_in.Goals as goal
+use Rattle.lent.proofs.bits.run_in.Goals.{then-value, else-value}
 
-pub returns-then-value : goal.returns-then-value
-returns-then-value c = record {
-  within = c.down_in.ensures.within;
-  all = (λ j lo hi. not-up c.args.word j (omega arith) (omega (arith, c.down_in.ensures.within)) (c.down_in.ensures.all j lo hi) ∙ sym c.if-value.true);
-  gap = (λ l. not_down c.args.word (c.args.from + c.down_in.result) (omega arith) l (c.down_in.ensures.gap l) ∙ sym (ap not c.if-value.true));
-}
+turned : (c : goal.After-min) → c.if-value.others ≡ cond c.args.value (2 ^ 64 - 1 - c.args.word) c.args.word
+turned c = elim c.if-value.branch [ then-value w ↦ w.others-is ∙ ap (λ b. cond b (2 ^ 64 - 1 - c.args.word) c.args.word) (sym w.if-value.true) | else-value w ↦ w.others-is ∙ ap (λ b. cond b (2 ^ 64 - 1 - c.args.word) c.args.word) (sym w.if-value.false) ]
+
+pub returns-clause-all : goal.returns-clause-all
+returns-clause-all c = run_all c.args.value c.args.word c.if-value.others c.args.from c.min.result (omega arith) (turned c) (omega arith)
+
+pub returns-clause-gap : goal.returns-clause-gap
+returns-clause-gap c = run_gap c.args.value c.args.word c.if-value.others c.args.from c.min.result (omega arith) (turned c) (omega arith)
