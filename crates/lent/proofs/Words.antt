@@ -71,8 +71,8 @@ module _ (w f t j : ℕ) (before : f < 64) (some : 0 < t) (within : t ≤ 64) (h
       flip : bit_at (2 ^ 64 - 1 - mask) j ≡ 1 - bit_at mask j
       flip = bit_at_not w64 mask j (let l = and_le_l ((2 ^ 64 - 1) * 2 ^ f % 2 ^ 64) ((2 ^ 64 - 1) / 2 ^ (64 - t)) in omega arith) here
 
--- a run of bits that are down, n of them from f on
-module _ (w f n : ℕ) (size : w < 2 ^ 64) (en : n ≡ min (count_trailing_zeros 64 (w / 2 ^ f)) (64 - f)) where
+-- a run of bits that are down, from f up to n
+module _ (w f n : ℕ) (size : w < 2 ^ 64) (en : n ≡ min (f + count_trailing_zeros 64 (w / 2 ^ f)) 64) where
   low : w / 2 ^ f < 2 ^ 64
   low = let d = div-le_self w (2 ^ f) in omega arith
 
@@ -86,22 +86,22 @@ module _ (w f n : ℕ) (size : w < 2 ^ 64) (en : n ≡ min (count_trailing_zeros
   shifted : (i : ℕ) → bit_at (w / 2 ^ f) i ≡ bit_at w (f + i)
   shifted i = ap (λ k. k % 2) (shr-shr w f i)
 
-  all_down : (j : ℕ) → f ≤ j → j < f + n → bit w j ≡ false
+  all_down : (j : ℕ) → f ≤ j → j < n → bit w j ≡ false
   all_down j lo hi =
       let e : f + (j - f) ≡ j = omega arith in
       digit_down w j (ap (bit_at w) (sym e) ∙ sym (shifted (j - f)) ∙ below (j - f) (omega arith))
 
-  then_up : f + n < 64 → bit w (f + n) ≡ true
+  then_up : n < 64 → bit w n ≡ true
   then_up h = ⊎_elim
       (λ (z : w / 2 ^ f ≡ 0). let all : count_trailing_zeros 64 (w / 2 ^ f) ≡ 64 = ap (count_trailing_zeros 64) z ∙ trailing_of_zero 64 in absurd (omega arith))
       (λ (ne : w / 2 ^ f ≡ 0 → ⊥).
       let t = bit_at-trailing_zeros w64 (w / 2 ^ f) (omega arith) low in
-      let e : n ≡ count_trailing_zeros 64 (w / 2 ^ f) = omega arith in
-      digit_up w (f + n) (sym (shifted n) ∙ ap (bit_at (w / 2 ^ f)) e ∙ t.1))
+      let e : n ≡ f + count_trailing_zeros 64 (w / 2 ^ f) = omega arith in
+      digit_up w n (ap (bit_at w) e ∙ sym (shifted _) ∙ t.1))
       (cases_eq (w / 2 ^ f) 0)
 
--- a run of bits that are as v says, n of them from f on: the others are down in `turned`
-module _ (v : Bool) (w turned f n : ℕ) (size : w < 2 ^ 64) (et : turned ≡ cond v (2 ^ 64 - 1 - w) w) (en : n ≡ min (count_trailing_zeros 64 (turned / 2 ^ f)) (64 - f)) where
+-- a run of bits that are as v says, from f up to n: the others are down in `turned`
+module _ (v : Bool) (w turned f n : ℕ) (size : w < 2 ^ 64) (et : turned ≡ cond v (2 ^ 64 - 1 - w) w) (en : n ≡ min (f + count_trailing_zeros 64 (turned / 2 ^ f)) 64) where
   small : turned < 2 ^ 64
   small = ⊎_elim (λ e. let t : turned ≡ 2 ^ 64 - 1 - w = et ∙ ap (λ b. cond b (2 ^ 64 - 1 - w) w) e in omega arith) (λ e. let t : turned ≡ w = et ∙ ap (λ b. cond b (2 ^ 64 - 1 - w) w) e in omega arith) (cases_Bool v)
 
@@ -112,15 +112,15 @@ module _ (v : Bool) (w turned f n : ℕ) (size : w < 2 ^ 64) (et : turned ≡ co
       go true b h e = sym (not-not (bit w j)) ∙ ap not (sym (bit_not w j size l) ∙ sym (ap (λ x. bit x j) h) ∙ e)
       go false b h e = sym (ap (λ x. bit x j) h) ∙ e
 
-  pub run_all : (j : ℕ) → f ≤ j → j < f + n → bit w j ≡ v
+  pub run_all : (j : ℕ) → f ≤ j → j < n → bit w j ≡ v
   run_all j lo hi = as_turned j false (omega arith) (all_down turned f n small en j lo hi) ∙ same v
     where
       same : (u : Bool) → cond u true false ≡ u
       same true = refl
       same false = refl
 
-  pub run_gap : f + n < 64 → bit w (f + n) ≡ not v
-  run_gap h = as_turned (f + n) true h (then_up turned f n small en h) ∙ other v
+  pub run_gap : n < 64 → bit w n ≡ not v
+  run_gap h = as_turned n true h (then_up turned f n small en h) ∙ other v
     where
       other : (u : Bool) → cond u false true ≡ not u
       other true = refl

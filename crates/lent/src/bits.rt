@@ -25,15 +25,15 @@ fn marked(word: u64, from: u64, to: u64, value: bool) -> u64
     if value { word | mask } else { word & !mask }
 }
 
-/// How many bits of a word in a row are as `value` says, from the bit `from` on.
-fn run_in(word: u64, from: u64, value: bool) -> u64
+/// Up to which bit those of a word are as `value` says, from the bit `from` on: 64 where all of them are.
+fn run_end(word: u64, from: u64, value: bool) -> u64
     requires { from < 64 }
-    ensures within { from + result ≤ 64 }
-    ensures all { (j : ℕ) → from ≤ j → j < from + result → bit word j ≡ value }
-    ensures gap { from + result < 64 → bit word (from + result) ≡ not value }
+    ensures within { (from ≤ result) × (result ≤ 64) }
+    ensures all { (j : ℕ) → from ≤ j → j < result → bit word j ≡ value }
+    ensures gap { result < 64 → bit word result ≡ not value }
 {
     let others = if value { !word } else { word };
-    u64::from((others >> from).trailing_zeros()).min(64 - from)
+    (from + u64::from((others >> from).trailing_zeros())).min(64)
 }
 
 /// Puts the bits of `n` places up or down, from a place on.
@@ -68,7 +68,7 @@ pub fn run(bits: &[u64; WORDS], place: u64, most: u64, value: bool) -> u64
     'gap: for word in place / 64..end.div_ceil(64) {
         let from = place.saturating_sub(64 * word);
         let at = (word % WORDS as u64) as usize;
-        let stop = from + run_in(bits[at], from, value);
+        let stop = run_end(bits[at], from, value);
         if stop < 64 {
             end = end.min(64 * word + stop);
             break 'gap;
