@@ -84,11 +84,14 @@ written_part p a (b ∷ bs) m at h g =
     ap (λ (n : ℕ). written (p + 1) bs (set m n b)) here ∙ written_part (p + 1) (a + 1) bs (set m a b) next (omega arith) long ∙
     rw (take_more_set m a b lt, tail) (append_assoc (take a m) (b ∷ []) (bs ++ drop (a + length (b ∷ bs)) m))
 
+-- how long a part is
+pub part_size : (a k : ℕ) (m : List ℕ) → a + k ≤ capacity → length m ≡ capacity → length (take k (drop a m)) ≡ k
+part_size a k m le size = simp (length-take, length-drop) (omega arith)
+
 -- what a part that is written from its front on leaves
 pub by_front : (p a k : ℕ) (text m part : List ℕ) → (0 < length text → p % capacity ≡ a) → part ≡ text ++ drop (length text) (take k (drop a m)) → length text ≤ k → a + k ≤ capacity → length m ≡ capacity → put_mid a k m part ≡ written p text m
 by_front p a k text m part ea h le fits size =
-    let n : length (drop a m) ≡ length m - a = length-drop a m in
-    let long : length (take k (drop a m)) ≡ k = length-take-le k (drop a m) (omega arith) in
+    let long = part_size a k m fits size in
     let rest : drop (length text) (take k (drop a m)) ++ drop k (drop a m) ≡ drop (a + length text) m =
     sym (drop-append-le (length text) (take k (drop a m)) (drop k (drop a m)) (omega arith)) ∙ ap (drop (length text)) (take-append-drop k (drop a m)) ∙ drop-drop (length text) a m in
     ap (λ (ys : List ℕ). take a m ++ (ys ++ drop k (drop a m))) h ∙
@@ -155,18 +158,22 @@ pub two_parts : (xs front back : List ℕ) (n : ℕ) → front ≡ take n xs →
 two_parts xs front back n e1 e2 = rw (e1, e2) (take-append-drop n xs)
 
 -- what a source that fills one part leaves
-pub by_part : (p a k r : ℕ) (rest m part : List ℕ) → a ≡ p % capacity → part ≡ take r rest ++ drop r (take k (drop a m)) → r ≤ length rest → r ≤ k → a + k ≤ capacity → length m ≡ capacity → put_mid a k m part ≡ written p (take r rest) m
+pub by_part : (p a k r : ℕ) (rest m part : List ℕ) → (0 < r → p % capacity ≡ a) → part ≡ take r rest ++ drop r (take k (drop a m)) → r ≤ length rest → r ≤ k → a + k ≤ capacity → length m ≡ capacity → put_mid a k m part ≡ written p (take r rest) m
 by_part p a k r rest m part ea h le hr fits size =
     let n : length (take r rest) ≡ r = length-take-le r rest le in
-    by_front p a k (take r rest) m part (λ _. sym ea) (h ∙ ap (λ (i : ℕ). take r rest ++ drop i (take k (drop a m))) (sym n)) (omega arith) fits size
+    by_front p a k (take r rest) m part (λ s. ea (omega arith)) (h ∙ ap (λ (i : ℕ). take r rest ++ drop i (take k (drop a m))) (sym n)) (omega arith) fits size
 
--- what a source that fills two parts leaves: it fills the one up to the ring's end, and r bytes of the other
-pub by_source : (p a k w l r : ℕ) (rest left m one two : List ℕ) → a ≡ p % capacity → a + k ≡ capacity → w ≡ k → l ≤ capacity → w ≤ length rest → r ≤ l → r ≤ length left → left ≡ drop w rest → length m ≡ capacity →
+-- how long a part is that begins where the ring does, after that
+pub next_size : (p a k r l : ℕ) (rest m part : List ℕ) → (0 < r → p % capacity ≡ a) → part ≡ take r rest ++ drop r (take k (drop a m)) → r ≤ length rest → r ≤ k → a + k ≤ capacity → length m ≡ capacity → l ≤ capacity → length (take l (put_mid a k m part)) ≡ l
+next_size p a k r l rest m part ea h le hr fits size hl = length-take-le l (put_mid a k m part) (let e = ap length (by_part p a k r rest m part ea h le hr fits size) ∙ length-written p (take r rest) m ∙ size in omega arith)
+
+-- what a source that fills two parts leaves: it fills the one, and r bytes of the other, which begins where the ring does
+pub by_source : (p a k w l r : ℕ) (rest left m one two : List ℕ) → a ≡ p % capacity → a + k ≤ capacity → (0 < l → a + k ≡ capacity) → w ≡ k → l ≤ capacity → w ≤ length rest → r ≤ l → r ≤ length left → left ≡ drop w rest → length m ≡ capacity →
     one ≡ take w rest ++ drop w (take k (drop a m)) → two ≡ take r left ++ drop r (take l (put_mid a k m one)) → put_mid 0 l (put_mid a k m one) two ≡ written p (take (w + r) rest) m
-by_source p a k w l r rest left m one two ea ek ew hl hw hr hr2 el size e1 e2 =
+by_source p a k w l r rest left m one two ea fits ek ew hl hw hr hr2 el size e1 e2 =
     let n : length (take w rest) ≡ w = length-take-le w rest hw in
-    let first : put_mid a k m one ≡ written p (take w rest) m = by_part p a k w rest m one ea e1 hw (omega arith) (omega arith) size in
-    let start : 0 ≡ (p + length (take w rest)) % capacity = omega arith in
+    let first : put_mid a k m one ≡ written p (take w rest) m = by_part p a k w rest m one (λ _. sym ea) e1 hw (omega arith) fits size in
+    let start : 0 < r → (p + length (take w rest)) % capacity ≡ 0 = λ s. let f = ek (omega arith) in omega arith in
     by_part (p + length (take w rest)) 0 l r left (put_mid a k m one) two start e2 hr2 hr (omega arith) (ap length first ∙ length-written p (take w rest) m ∙ size) ∙
     ap (written (p + length (take w rest)) (take r left)) first ∙ sym (written-append p (take w rest) (take r left) m) ∙
     ap (λ (xs : List ℕ). written p (take w rest ++ take r xs) m) el ∙ sym (ap (λ (xs : List ℕ). written p xs m) (take-add w r rest))

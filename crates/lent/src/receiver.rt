@@ -13,7 +13,7 @@ use packet::settings::CAPACITY;
 
 /// The numbers of the bytes that came: those got and not taken, and those kept before their turn, stand in one ring, with bits
 /// that say which places are kept.
-#[derive(Clone, Copy)]
+#[derive(Clone, Copy, PartialEq, Eq, Debug)]
 pub struct Receiver {
     /// How many bytes came in order.
     pub got: u64,
