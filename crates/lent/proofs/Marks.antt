@@ -1,9 +1,10 @@
 -- Bits of places, put up or down and counted a word at a time.
-use Rattle.std.proofs.Common.{◌≡◌, ℕ, ◌+◌, ◌-◌, ◌*◌, ◌/◌, ◌%◌, ◌<◌, ◌≤◌, min, Bool, false, cond, not, ◌&&◌, ltb, leb, ◌⊎◌, List, length, get_or, set, sym, refl, ap, ◌∙◌, ⊎_elim, arith}
-use Rattle.std.proofs.lemmas.List.{get_or-set_same, get_or-set_other}
+use Rattle.std.proofs.Common.{◌≡◌, ℕ, ◌+◌, ◌-◌, ◌*◌, ◌/◌, ◌%◌, ◌<◌, ◌≤◌, min, Bool, false, cond, not, ◌&&◌, ltb, leb, ◌⊎◌, List, length, get_or, set, replicate, sym, refl, ap, ◌∙◌, ⊎_elim, arith}
+use Rattle.std.proofs.lemmas.List.{get_or-replicate, get_or-set_same, get_or-set_other}
 use Rattle.std.proofs.lemmas.Bool.Decides.{nat_tests}
 use Rattle.std.proofs.lemmas.Bool.{lt-ltb, le-ltb, cond-true, cond-false, cases_lt, cases_eq}
 use Rattle.packet.specs.Sizes.{capacity}
+use Rattle.lent.proofs.Words.{bit_none}
 use Rattle.lent.specs.Bits.{bit, up, Marked, AllAre}
 
 -- two places of one round that stand in one slot are the same
@@ -14,6 +15,11 @@ same_place p q place e a b c d = omega arith
 pub up_at : (ws : List ℕ) (p i j : ℕ) → p % capacity / 64 ≡ i → p % 64 ≡ j → up ws p ≡ bit (get_or ws i 0) j
 unfolding up
 up_at ws p i j ei ej = ap (λ k. bit (get_or ws k 0) (p % 64)) ei ∙ ap (bit (get_or ws i 0)) ej
+
+pub up_none : (n : ℕ) (ws : List ℕ) → n ≡ 1024 → ws ≡ replicate n 0 → AllAre 0 capacity false ws
+up_none n ws size e p lo hi =
+    up_at ws p (p % capacity / 64) (p % 64) refl refl ∙ ap (λ xs. bit (get_or xs (p % capacity / 64) 0) (p % 64)) e ∙
+    ap (λ w. bit w (p % 64)) (get_or-replicate n (p % capacity / 64) 0 0 (omega arith)) ∙ bit_none (p % 64)
 
 pub marked_none : (place : ℕ) (v : Bool) (ws : List ℕ) → Marked place 0 v ws ws
 marked_none place v ws p lo hi = sym (cond-false (ltb p (place + 0)) v (up ws p) (le-ltb p (place + 0) (omega arith)))

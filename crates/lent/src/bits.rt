@@ -50,13 +50,6 @@ pub fn mark(bits: &mut [u64; WORDS], place: u64, n: u64, value: bool)
     }
 }
 
-/// Puts all bits down.
-pub fn clear(bits: &mut [u64; WORDS])
-    ensures { AllAre 0 capacity false bits.new }
-{
-    bits.fill(0);
-}
-
 /// How many bits in a row are as `value` says, at most `most`, from a place on.
 pub fn run(bits: &[u64; WORDS], place: u64, most: u64, value: bool) -> u64
     requires { place + most < 2 ^ 64 }

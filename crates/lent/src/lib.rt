@@ -2,7 +2,8 @@
 #![tactic(auto)]
 
 pub mod bits;
-pub mod gaps;
+pub mod inbox;
+pub mod incoming;
 pub mod receiver;
 pub mod ring;
 pub mod sender;
