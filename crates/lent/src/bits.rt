@@ -6,7 +6,7 @@ use crate::ring::slot;
 use packet::settings::CAPACITY;
 
 /// Words with a bit for each byte of a ring.
-pub const WORDS: usize = 1024;
+pub const WORDS: usize = CAPACITY / 64;
 
 /// Whether the bit of a place is up.
 pub fn is_up(bits: &[u64; WORDS], place: u64) -> bool
@@ -58,6 +58,7 @@ pub fn run(bits: &[u64; WORDS], place: u64, most: u64, value: bool) -> u64
     ensures gap { result < most → up bits.now (place + result) ≡ not value }
 {
     let mut end = place + most;
+    // A loop over words that a label leaves at the first gap: the project asks for this form here.
     'gap: for word in place / 64..end.div_ceil(64) {
         let from = place.saturating_sub(64 * word);
         let at = (word % WORDS as u64) as usize;

@@ -9,7 +9,7 @@ use crate::source::{Source, fill_from};
 use packet::settings::CAPACITY;
 
 /// No stream has more bytes than these.
-pub const MOST: u64 = 4611686018427387904;
+pub const MOST: u64 = 1 << 62;
 
 /// The numbers of the bytes to be sent: those given and not confirmed stand in the ring.
 #[derive(Clone, Copy, PartialEq, Eq, Debug)]
