@@ -1,150 +1,127 @@
 -- The bits of a word.
-use Rattle.std.proofs.Common.{◌≡◌, ℕ, zero, suc, ◌+◌, ◌-◌, ◌*◌, ◌/◌, ◌%◌, ◌^◌, ◌<◌, ◌≤◌, min, max, Bool, true, false, cond, ◌&&◌, eqb, ltb, leb, ◌⊎◌, sym, refl, ap, ◌∙◌, inl, inr, ⊎_elim, pow-suc, arith, pow_pos, shl_exact, shr-shr}
-use lib.Bits.{bit_and, bit_or, and_step, or_step, and_shr, or_shr, and_mask, shifted_half, shifted_even}
-use lib.Count.{count_trailing_zeros, under}
-use lib.Pow.{high, ones_split, ones_lt}
-use Rattle.std.proofs.lemmas.Bool.{eq-eqb, ne_eqb, eqb-true, eqb-false, lt-ltb, le-ltb, le-leb, lt-leb, and_from, and_left, and_right, cond-true, cond-false, cases_lt}
+use Rattle.std.proofs.Common.{◌≡◌, ℕ, ◌+◌, ◌-◌, ◌*◌, ◌/◌, ◌%◌, ◌^◌, ◌<◌, ◌≤◌, min, Bool, true, false, cond, not, ◌&&◌, ltb, leb, eqb, sym, refl, ap, ◌∙◌, ⊎_elim, arith, shr-shr, div-le_self}
+use Rattle.std.proofs.Math.Bool.{not-not}
+use lib.Bits.{bit_and, bit_or}
+use lib.Count.{count_trailing_zeros}
+use Rattle.std.specs.Int.{bit_at, w64}
+use Rattle.std.proofs.lemmas.Bool.{eq-eqb, ne_eqb, cases_Bool, cases_eq, cases_lt}
+use Rattle.std.proofs.lemmas.Bool.Decides.{nat_tests}
+use Rattle.std.proofs.lemmas.Nat.{and_le_l}
+use Rattle.std.proofs.lemmas.Nat.Bits.{bit_at-zero, shr_and_one, bit_at_and, bit_at_or, bit_at_not, bit_at-lt, bit_at-trailing_zeros, bit_at_ones, bit_at_ones_above, bit_at_mask_inside, bit_at_mask_below, ones_shl, ones_shr}
+use Rattle.std.specs.Int.Count.{trailing_of_zero}
 use Rattle.lent.specs.Bits.{bit}
 
--- a digit further on is that of half the number
-digit-suc : (n j : ℕ) → n / 2 ^ suc j ≡ n / 2 / 2 ^ j
-digit-suc n j = let e : suc j ≡ 1 + j = omega arith in ap (λ k. n / 2 ^ k) e ∙ sym (shr-shr n 1 j)
-
-half_ones : (k : ℕ) → ((2 ^ suc k - 1) / 2 ≡ 2 ^ k - 1) × ((2 ^ suc k - 1) % 2 ≡ 1)
-half_ones k = let p = pow_pos k in let e : 2 ^ suc k ≡ 2 ^ k * 2 = pow-suc 2 k in (omega arith, omega arith)
-
--- the digits of a row of ones, which begins at f and has c
-ones_inside : (f c j : ℕ) → f ≤ j → j < f + c → (2 ^ c - 1) * 2 ^ f / 2 ^ j % 2 ≡ 1
-ones_inside zero zero j lo hi = absurd (omega arith)
-ones_inside zero (suc c) zero lo hi = let h = half_ones c in omega arith
-ones_inside zero (suc c) (suc j) lo hi =
-    let h : (2 ^ suc c - 1) * 1 / 2 ≡ (2 ^ c - 1) * 1 = let g = half_ones c in omega arith in
-    ap (λ k. k % 2) (digit-suc ((2 ^ suc c - 1) * 1) j ∙ ap (λ k. k / 2 ^ j) h) ∙ ones_inside zero c j (omega arith) (omega arith)
-ones_inside (suc f) c zero lo hi = absurd (omega arith)
-ones_inside (suc f) c (suc j) lo hi = ap (λ k. k % 2) (digit-suc ((2 ^ c - 1) * 2 ^ suc f) j ∙ ap (λ k. k / 2 ^ j) (shifted_half (2 ^ c - 1) f)) ∙ ones_inside f c j (omega arith) (omega arith)
-
-ones_outside : (f c j : ℕ) → (j < f) ⊎ (f + c ≤ j) → (2 ^ c - 1) * 2 ^ f / 2 ^ j % 2 ≡ 0
-ones_outside zero zero zero o = refl
-ones_outside zero zero (suc j) o = ap (λ k. k % 2) (digit-suc 0 j) ∙ ones_outside zero zero j (inr (omega arith))
-ones_outside zero (suc c) zero o = absurd (⊎_elim (λ (l : 0 < 0). omega arith) (λ (l : 0 + suc c ≤ 0). omega arith) o)
-ones_outside zero (suc c) (suc j) o =
-    let h : (2 ^ suc c - 1) * 1 / 2 ≡ (2 ^ c - 1) * 1 = let g = half_ones c in omega arith in
-    ap (λ k. k % 2) (digit-suc ((2 ^ suc c - 1) * 1) j ∙ ap (λ k. k / 2 ^ j) h) ∙ ones_outside zero c j (⊎_elim (λ (l : suc j < 0). inl (absurd (omega arith))) (λ (l : 0 + suc c ≤ suc j). inr (omega arith)) o)
-ones_outside (suc f) c zero o = let e = shifted_even (2 ^ c - 1) f in omega arith
-ones_outside (suc f) c (suc j) o =
-    ap (λ k. k % 2) (digit-suc ((2 ^ c - 1) * 2 ^ suc f) j ∙ ap (λ k. k / 2 ^ j) (shifted_half (2 ^ c - 1) f)) ∙ ones_outside f c j (⊎_elim (λ (l : suc j < suc f). inl (omega arith)) (λ (l : suc f + c ≤ suc j). inr (omega arith)) o)
-
--- the digits of a word's complement
-not_digit : (k j w : ℕ) → w < 2 ^ k → j < k → (2 ^ k - 1 - w) / 2 ^ j % 2 ≡ 1 - w / 2 ^ j % 2
-not_digit zero j w l h = absurd (omega arith)
-not_digit (suc k) zero w l h = let e : 2 ^ suc k ≡ 2 ^ k * 2 = pow-suc 2 k in omega arith
-not_digit (suc k) (suc j) w l h =
-    let e : 2 ^ suc k ≡ 2 ^ k * 2 = pow-suc 2 k in
-    let half : (2 ^ suc k - 1 - w) / 2 ≡ 2 ^ k - 1 - w / 2 = omega arith in
-    ap (λ n. n % 2) (digit-suc (2 ^ suc k - 1 - w) j ∙ ap (λ n. n / 2 ^ j) half) ∙ not_digit k j (w / 2) (omega arith) (omega arith) ∙ sym (ap (λ n. 1 - n % 2) (digit-suc w j))
-
-or_digit : (a b j : ℕ) → bit_or a b / 2 ^ j % 2 ≡ max (a / 2 ^ j % 2) (b / 2 ^ j % 2)
-or_digit a b j = let e = or_shr a b j in let s = or_step (a / 2 ^ j) (b / 2 ^ j) in omega arith
-
-and_digit : (a b j : ℕ) → bit_and a b / 2 ^ j % 2 ≡ min (a / 2 ^ j % 2) (b / 2 ^ j % 2)
-and_digit a b j = let e = and_shr a b j in let s = and_step (a / 2 ^ j) (b / 2 ^ j) in omega arith
-
--- below its lowest digit that is set, a number has zeros
-trailing_below : (k n j : ℕ) → j < count_trailing_zeros k n → n / 2 ^ j % 2 ≡ 0
-unfolding count_trailing_zeros
-trailing_below zero n j l = absurd (omega arith)
-trailing_below (suc k) n j l = go (n % 2) refl j l (λ i h. trailing_below k (n / 2) i h)
-  where
-    go : (d : ℕ) → n % 2 ≡ d → (j : ℕ) → j < under d (count_trailing_zeros k (n / 2)) → ((i : ℕ) → i < count_trailing_zeros k (n / 2) → n / 2 / 2 ^ i % 2 ≡ 0) → n / 2 ^ j % 2 ≡ 0
-    go zero e zero h r = let o : n / 1 ≡ n = omega arith in omega arith
-    go zero e (suc i) h r = ap (λ m. m % 2) (digit-suc n i) ∙ r i (omega arith)
-    go (suc d) e j h r = absurd (omega arith)
-
-trailing_at : (k n : ℕ) → count_trailing_zeros k n < k → n / 2 ^ count_trailing_zeros k n % 2 ≡ 1
-unfolding count_trailing_zeros
-trailing_at zero n l = absurd (omega arith)
-trailing_at (suc k) n l = go (n % 2) refl l (λ h. trailing_at k (n / 2) h)
-  where
-    go : (d : ℕ) → n % 2 ≡ d → under d (count_trailing_zeros k (n / 2)) < suc k → (count_trailing_zeros k (n / 2) < k → n / 2 / 2 ^ count_trailing_zeros k (n / 2) % 2 ≡ 1) → n / 2 ^ under d (count_trailing_zeros k (n / 2)) % 2 ≡ 1
-    go zero e h r = ap (λ m. m % 2) (digit-suc n (count_trailing_zeros k (n / 2))) ∙ r (omega arith)
-    go (suc d) e h r = omega arith
-
 -- a digit as a truth value
-digit-up : (w j : ℕ) → w / 2 ^ j % 2 ≡ 1 → bit w j ≡ true
+pub digit_up : (w j : ℕ) → bit_at w j ≡ 1 → bit w j ≡ true
 unfolding bit
-digit-up w j e = eq-eqb (w / 2 ^ j % 2) 1 e
+digit_up w j e = eq-eqb (bit_at w j) 1 e
 
-digit_down : (w j : ℕ) → w / 2 ^ j % 2 ≡ 0 → bit w j ≡ false
+pub digit_down : (w j : ℕ) → bit_at w j ≡ 0 → bit w j ≡ false
 unfolding bit
-digit_down w j e = ne_eqb (w / 2 ^ j % 2) 1 (omega arith)
+digit_down w j e = ne_eqb (bit_at w j) 1 (omega arith)
 
-digit-same : (v w j : ℕ) → v / 2 ^ j % 2 ≡ w / 2 ^ j % 2 → bit v j ≡ bit w j
+digit_same : (v w j : ℕ) → bit_at v j ≡ bit_at w j → bit v j ≡ bit w j
 unfolding bit
-digit-same v w j e = ap (λ d. eqb d 1) e
+digit_same v w j e = ap (λ d. eqb d 1) e
+
+pub bit_none : (j : ℕ) → bit 0 j ≡ false
+bit_none j = digit_down 0 j (bit_at-zero j)
 
 pub bit-read : (w j : ℕ) → eqb (bit_and (w / 2 ^ j) 1) 1 ≡ bit w j
 unfolding bit
-bit-read w j = ap (λ d. eqb d 1) (and_mask (w / 2 ^ j) 1)
+bit-read w j = ap (λ d. eqb d 1) (shr_and_one w j)
 
-pub mask_is : (f c : ℕ) → f + c ≤ 64 → (2 ^ 64 - 1) / 2 ^ (64 - c) * 2 ^ f % 2 ^ 64 ≡ (2 ^ c - 1) * 2 ^ f
-mask_is f c h =
-    let e : 64 ≡ c + (64 - c) = omega arith in
-    let q : (2 ^ 64 - 1) / 2 ^ (64 - c) ≡ 2 ^ c - 1 = ap (λ n. (2 ^ n - 1) / 2 ^ (64 - c)) e ∙ ap (λ n. n / 2 ^ (64 - c)) (ones_split c (64 - c)) ∙ high (2 ^ c - 1) (64 - c) (ones_lt (64 - c)) in
-    ap (λ n. n * 2 ^ f % 2 ^ 64) q ∙ shl_exact c f 64 (ones_lt c) (omega arith)
+-- a word's bit is up where its complement's is down
+pub bit_not : (w j : ℕ) → w < 2 ^ 64 → j < 64 → bit (2 ^ 64 - 1 - w) j ≡ not (bit w j)
+bit_not w j l h =
+    let e = bit_at_not w64 w j l h in
+    ⊎_elim
+    (λ (z : bit_at w j ≡ 0). digit_up (2 ^ 64 - 1 - w) j (omega arith) ∙ sym (ap not (digit_down w j z)))
+    (λ (ne : bit_at w j ≡ 0 → ⊥). let o = bit_at-lt w j in digit_down (2 ^ 64 - 1 - w) j (omega arith) ∙ sym (ap not (digit_up w j (omega arith))))
+    (cases_eq (bit_at w j) 0)
 
-mask_below : (f c : ℕ) → f + c ≤ 64 → (2 ^ c - 1) * 2 ^ f < 2 ^ 64
-mask_below f c h = let e = shl_exact c f 64 (ones_lt c) (omega arith) in omega arith
+-- a word with some of its bits put as v says
+one_of : (c v : Bool) (r w j : ℕ) → (c ≡ true → bit r j ≡ v) → (c ≡ false → bit r j ≡ bit w j) → bit r j ≡ cond c v (bit w j)
+one_of true v r w j a b = a refl
+one_of false v r w j a b = b refl
 
--- bits put up or down
-module _ (w m f c j : ℕ) (em : m ≡ (2 ^ c - 1) * 2 ^ f) where
-  inside : f ≤ j → j < f + c → m / 2 ^ j % 2 ≡ 1
-  inside lo hi = ap (λ n. n / 2 ^ j % 2) em ∙ ones_inside f c j lo hi
+-- the word's bits from f up to t, put up or down
+module _ (w f t j : ℕ) (before : f < 64) (some : 0 < t) (within : t ≤ 64) (here : j < 64) where
+  abbrev mask : ℕ
+  mask = bit_and ((2 ^ 64 - 1) * 2 ^ f % 2 ^ 64) ((2 ^ 64 - 1) / 2 ^ (64 - t))
 
-  outside : (j < f) ⊎ (f + c ≤ j) → m / 2 ^ j % 2 ≡ 0
-  outside o = ap (λ n. n / 2 ^ j % 2) em ∙ ones_outside f c j o
+  mask_at : bit_at mask j ≡ cond (leb f j && ltb j t) 1 0
+  mask_at =
+      let both = bit_at_and ((2 ^ 64 - 1) * 2 ^ f % 2 ^ 64) ((2 ^ 64 - 1) / 2 ^ (64 - t)) j in
+      let from : bit_at ((2 ^ 64 - 1) * 2 ^ f % 2 ^ 64) j ≡ cond (leb f j) 1 0 = ap (λ m. bit_at m j) (ones_shl 64 f (omega arith)) ∙ ⊎_elim (λ (l : j < f). bit_at_mask_below f 64 j l ∙ grind (arith, nat_tests)) (λ (l : f ≤ j). bit_at_mask_inside f 64 j l here ∙ grind (arith, nat_tests)) (cases_lt j f) in
+      let size : 64 - (64 - t) ≡ t = omega arith in
+      let upto : bit_at ((2 ^ 64 - 1) / 2 ^ (64 - t)) j ≡ cond (ltb j t) 1 0 = ap (λ m. bit_at m j) (ones_shr 64 (64 - t) (omega arith)) ∙ ap (λ k. bit_at (2 ^ k - 1) j) size ∙ ⊎_elim (λ (l : j < t). bit_at_ones t j l ∙ grind (arith, nat_tests)) (λ (l : t ≤ j). bit_at_ones_above t j l ∙ grind (arith, nat_tests)) (cases_lt j t) in
+      grind (arith, nat_tests)
 
-  within_both : (r : ℕ) (v : Bool) → (f ≤ j → j < f + c → bit r j ≡ v) → ((j < f) ⊎ (f + c ≤ j) → bit r j ≡ bit w j) → bit r j ≡ cond (leb f j && ltb j (f + c)) v (bit w j)
-  within_both r v yes-case no-case = ⊎_elim
-      (λ (l : j < f). no-case (inl l) ∙ sym (cond-false (leb f j && ltb j (f + c)) v (bit w j) (and_left (leb f j) (ltb j (f + c)) (lt-leb f j l))))
-      (λ (l : f ≤ j). ⊎_elim
-      (λ (h : j < f + c). yes-case l h ∙ sym (cond-true (leb f j && ltb j (f + c)) v (bit w j) (and_from (leb f j) (ltb j (f + c)) (le-leb f j l) (lt-ltb j (f + c) h))))
-      (λ (h : f + c ≤ j). no-case (inr h) ∙ sym (cond-false (leb f j && ltb j (f + c)) v (bit w j) (and_right (leb f j) (ltb j (f + c)) (le-ltb j (f + c) h))))
-      (cases_lt j (f + c)))
-      (cases_lt j f)
+  pub marked_up : bit (bit_or w mask) j ≡ cond (leb f j && ltb j t) true (bit w j)
+  marked_up = one_of (leb f j && ltb j t) true (bit_or w mask) w j
+      (λ e. let m : bit_at mask j ≡ 1 = mask_at ∙ ap (λ c. cond c 1 0) e in digit_up (bit_or w mask) j (let o = bit_at_or w mask j in let l = bit_at-lt w j in omega arith))
+      (λ e. let m : bit_at mask j ≡ 0 = mask_at ∙ ap (λ c. cond c 1 0) e in digit_same (bit_or w mask) w j (let o = bit_at_or w mask j in omega arith))
 
-  pub marked-up : bit (bit_or w m) j ≡ cond (leb f j && ltb j (f + c)) true (bit w j)
-  marked-up = within_both (bit_or w m) true
-      (λ lo hi. digit-up (bit_or w m) j (let e = inside lo hi in let o = or_digit w m j in omega arith))
-      (λ o. digit-same (bit_or w m) w j (let e = outside o in let d = or_digit w m j in omega arith))
-
-  pub marked_down : f + c ≤ 64 → j < 64 → bit (bit_and w (2 ^ 64 - 1 - m)) j ≡ cond (leb f j && ltb j (f + c)) false (bit w j)
-  marked_down le lt = within_both (bit_and w (2 ^ 64 - 1 - m)) false
-      (λ lo hi. digit_down (bit_and w (2 ^ 64 - 1 - m)) j (let e = inside lo hi in let o = and_digit w (2 ^ 64 - 1 - m) j in omega (arith, flip)))
-      (λ o. digit-same (bit_and w (2 ^ 64 - 1 - m)) w j (let e = outside o in let d = and_digit w (2 ^ 64 - 1 - m) j in omega (arith, flip)))
+  pub marked_down : bit (bit_and w (2 ^ 64 - 1 - mask)) j ≡ cond (leb f j && ltb j t) false (bit w j)
+  marked_down = one_of (leb f j && ltb j t) false (bit_and w (2 ^ 64 - 1 - mask)) w j
+      (λ e. let m : bit_at mask j ≡ 1 = mask_at ∙ ap (λ c. cond c 1 0) e in digit_down (bit_and w (2 ^ 64 - 1 - mask)) j (let a = bit_at_and w (2 ^ 64 - 1 - mask) j in omega (arith, flip)))
+      (λ e. let m : bit_at mask j ≡ 0 = mask_at ∙ ap (λ c. cond c 1 0) e in digit_same (bit_and w (2 ^ 64 - 1 - mask)) w j (let a = bit_at_and w (2 ^ 64 - 1 - mask) j in let l = bit_at-lt w j in omega (arith, flip)))
     where
-      flip : (2 ^ 64 - 1 - m) / 2 ^ j % 2 ≡ 1 - m / 2 ^ j % 2
-      flip = not_digit 64 j m (let e = mask_below f c le in omega arith) lt
+      flip : bit_at (2 ^ 64 - 1 - mask) j ≡ 1 - bit_at mask j
+      flip = bit_at_not w64 mask j (let l = and_le_l ((2 ^ 64 - 1) * 2 ^ f % 2 ^ 64) ((2 ^ 64 - 1) / 2 ^ (64 - t)) in omega arith) here
 
--- a run of bits that are down, n of them from f on
-module _ (w f n : ℕ) (en : n ≡ min (count_trailing_zeros 64 (w / 2 ^ f)) (64 - f)) where
-  pub run_down : (j : ℕ) → f ≤ j → j < f + n → bit w j ≡ false
-  run_down j lo hi =
+-- a run of bits that are down, from f up to n
+module _ (w f n : ℕ) (size : w < 2 ^ 64) (en : n ≡ min (f + count_trailing_zeros 64 (w / 2 ^ f)) 64) where
+  low : w / 2 ^ f < 2 ^ 64
+  low = let d = div-le_self w (2 ^ f) in omega arith
+
+  -- of the word without its lowest f bits, those below the lowest that is up
+  below : (i : ℕ) → i < count_trailing_zeros 64 (w / 2 ^ f) → bit_at (w / 2 ^ f) i ≡ 0
+  below i l = ⊎_elim
+      (λ (z : w / 2 ^ f ≡ 0). ap (λ m. bit_at m i) z ∙ bit_at-zero i)
+      (λ (ne : w / 2 ^ f ≡ 0 → ⊥). (bit_at-trailing_zeros w64 (w / 2 ^ f) (omega arith) low).2 i l)
+      (cases_eq (w / 2 ^ f) 0)
+
+  shifted : (i : ℕ) → bit_at (w / 2 ^ f) i ≡ bit_at w (f + i)
+  shifted i = ap (λ k. k % 2) (shr-shr w f i)
+
+  all_down : (j : ℕ) → f ≤ j → j < n → bit w j ≡ false
+  all_down j lo hi =
       let e : f + (j - f) ≡ j = omega arith in
-      digit_down w j (ap (λ k. w / 2 ^ k % 2) (sym e) ∙ ap (λ k. k % 2) (sym (shr-shr w f (j - f))) ∙ trailing_below 64 (w / 2 ^ f) (j - f) (omega arith))
+      digit_down w j (ap (bit_at w) (sym e) ∙ sym (shifted (j - f)) ∙ below (j - f) (omega arith))
 
-  pub run_gap : f + n < 64 → bit w (f + n) ≡ true
-  run_gap h =
-      let e : n ≡ count_trailing_zeros 64 (w / 2 ^ f) = omega arith in
-      digit-up w (f + n) (ap (λ k. k % 2) (sym (shr-shr w f n)) ∙ ap (λ k. w / 2 ^ f / 2 ^ k % 2) e ∙ trailing_at 64 (w / 2 ^ f) (omega arith))
+  then_up : n < 64 → bit w n ≡ true
+  then_up h = ⊎_elim
+      (λ (z : w / 2 ^ f ≡ 0). let all : count_trailing_zeros 64 (w / 2 ^ f) ≡ 64 = ap (count_trailing_zeros 64) z ∙ trailing_of_zero 64 in absurd (omega arith))
+      (λ (ne : w / 2 ^ f ≡ 0 → ⊥).
+      let t = bit_at-trailing_zeros w64 (w / 2 ^ f) (omega arith) low in
+      let e : n ≡ f + count_trailing_zeros 64 (w / 2 ^ f) = omega arith in
+      digit_up w n (ap (bit_at w) e ∙ sym (shifted _) ∙ t.1))
+      (cases_eq (w / 2 ^ f) 0)
 
--- a word's bit where its complement's is known
-pub not-up : (w j : ℕ) → w < 2 ^ 64 → j < 64 → bit (2 ^ 64 - 1 - w) j ≡ false → bit w j ≡ true
-unfolding bit
-not-up w j l h e = let d = not_digit 64 j w l h in let ne = eqb-false ((2 ^ 64 - 1 - w) / 2 ^ j % 2) 1 e in digit-up w j (two_ways ne d)
-  where
-    two_ways : ((2 ^ 64 - 1 - w) / 2 ^ j % 2 ≡ 1 → ⊥) → (2 ^ 64 - 1 - w) / 2 ^ j % 2 ≡ 1 - w / 2 ^ j % 2 → w / 2 ^ j % 2 ≡ 1
-    two_ways ne d = omega arith
+-- a run of bits that are as v says, from f up to n: the others are down in `turned`
+module _ (v : Bool) (w turned f n : ℕ) (size : w < 2 ^ 64) (et : turned ≡ cond v (2 ^ 64 - 1 - w) w) (en : n ≡ min (f + count_trailing_zeros 64 (turned / 2 ^ f)) 64) where
+  small : turned < 2 ^ 64
+  small = ⊎_elim (λ e. let t : turned ≡ 2 ^ 64 - 1 - w = et ∙ ap (λ b. cond b (2 ^ 64 - 1 - w) w) e in omega arith) (λ e. let t : turned ≡ w = et ∙ ap (λ b. cond b (2 ^ 64 - 1 - w) w) e in omega arith) (cases_Bool v)
 
-pub not_down : (w j : ℕ) → w < 2 ^ 64 → j < 64 → bit (2 ^ 64 - 1 - w) j ≡ true → bit w j ≡ false
-unfolding bit
-not_down w j l h e = let d = not_digit 64 j w l h in let u = eqb-true ((2 ^ 64 - 1 - w) / 2 ^ j % 2) 1 e in digit_down w j (omega arith)
+  as_turned : (j : ℕ) (b : Bool) → j < 64 → bit turned j ≡ b → bit w j ≡ cond v (not b) b
+  as_turned j b l e = go v b et e
+    where
+      go : (u b : Bool) → turned ≡ cond u (2 ^ 64 - 1 - w) w → bit turned j ≡ b → bit w j ≡ cond u (not b) b
+      go true b h e = sym (not-not (bit w j)) ∙ ap not (sym (bit_not w j size l) ∙ sym (ap (λ x. bit x j) h) ∙ e)
+      go false b h e = sym (ap (λ x. bit x j) h) ∙ e
+
+  pub run_all : (j : ℕ) → f ≤ j → j < n → bit w j ≡ v
+  run_all j lo hi = as_turned j false (omega arith) (all_down turned f n small en j lo hi) ∙ same v
+    where
+      same : (u : Bool) → cond u true false ≡ u
+      same true = refl
+      same false = refl
+
+  pub run_gap : n < 64 → bit w n ≡ not v
+  run_gap h = as_turned n true h (then_up turned f n small en h) ∙ other v
+    where
+      other : (u : Bool) → cond u false true ≡ not u
+      other true = refl
+      other false = refl

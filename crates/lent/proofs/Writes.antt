@@ -1,7 +1,7 @@
 -- Laws of a ring that is written and read.
 use Rattle.std.proofs.Common.{◌≡◌, ℕ, zero, suc, ◌+◌, ◌-◌, ◌%◌, ◌<◌, ◌≤◌, cond, ltb, ◌⊎◌, List, [], ◌∷◌, ◌++◌, length, get_or, take, drop, set, sym, refl, ap, ◌∙◌, ⊎_elim, append_assoc, add-zero, suc-add, zero-add, arith, length-set, take-append-drop, take-add}
 use borrow.Rule.Slice.PartMut.{put_mid}
-use Rattle.std.proofs.lemmas.List.{take_more_set, drop-set-lt, drop-drop, take_at, drop_at, length-take, drop_all, length-drop, length-take-le, drop-append-le, drop_more, append-nil, get_or-set_same, get_or-set_other}
+use Rattle.std.proofs.lemmas.List.{take_more_set, drop-set-lt, drop-drop, length-take, drop_all, length-drop, length-take-le, drop-append-le, drop_more, append-nil, get_or-set_same, get_or-set_other, nil_from_length}
 use Rattle.std.proofs.lemmas.Bool.{cases_eq, lt-ltb, le-ltb, cond-true, cond-false}
 use Rattle.packet.specs.Sizes.{capacity}
 use Rattle.lent.specs.Ring.{written, held}
@@ -84,29 +84,32 @@ written_part p a (b ∷ bs) m at h g =
     ap (λ (n : ℕ). written (p + 1) bs (set m n b)) here ∙ written_part (p + 1) (a + 1) bs (set m a b) next (omega arith) long ∙
     rw (take_more_set m a b lt, tail) (append_assoc (take a m) (b ∷ []) (bs ++ drop (a + length (b ∷ bs)) m))
 
+-- how long a part is
+pub part_size : (a k : ℕ) (m : List ℕ) → a + k ≤ capacity → length m ≡ capacity → length (take k (drop a m)) ≡ k
+part_size a k m le size = simp (length-take, length-drop) (omega arith)
+
 -- what a part that is written from its front on leaves
-pub by_front : (p a k : ℕ) (text m part : List ℕ) → a ≡ p % capacity → part ≡ text ++ drop (length text) (take k (drop a m)) → length text ≤ k → a + k ≤ capacity → length m ≡ capacity → put_mid a k m part ≡ written p text m
+pub by_front : (p a k : ℕ) (text m part : List ℕ) → (0 < length text → p % capacity ≡ a) → part ≡ text ++ drop (length text) (take k (drop a m)) → length text ≤ k → a + k ≤ capacity → length m ≡ capacity → put_mid a k m part ≡ written p text m
 by_front p a k text m part ea h le fits size =
-    let n : length (drop a m) ≡ length m - a = length-drop a m in
-    let long : length (take k (drop a m)) ≡ k = length-take-le k (drop a m) (omega arith) in
+    let long = part_size a k m fits size in
     let rest : drop (length text) (take k (drop a m)) ++ drop k (drop a m) ≡ drop (a + length text) m =
     sym (drop-append-le (length text) (take k (drop a m)) (drop k (drop a m)) (omega arith)) ∙ ap (drop (length text)) (take-append-drop k (drop a m)) ∙ drop-drop (length text) a m in
     ap (λ (ys : List ℕ). take a m ++ (ys ++ drop k (drop a m))) h ∙
     ap (λ (ys : List ℕ). take a m ++ ys) (append_assoc text (drop (length text) (take k (drop a m))) (drop k (drop a m)) ∙ ap (λ (ys : List ℕ). text ++ ys) rest) ∙
-    sym (written_part p a text m (λ _. sym ea) (omega arith) (omega arith))
+    sym (written_part p a text m ea (omega arith) (omega arith))
 
 -- what a write to one part leaves
-pub by_one : (p a k : ℕ) (text m part : List ℕ) → a ≡ p % capacity → part ≡ text → k ≡ length text → a + length text ≤ capacity → length m ≡ capacity → put_mid a k m part ≡ written p text m
+pub by_one : (p a k : ℕ) (text m part : List ℕ) → (0 < length text → p % capacity ≡ a) → part ≡ text → k ≡ length text → a + length text ≤ capacity → length m ≡ capacity → put_mid a k m part ≡ written p text m
 by_one p a k text m part ea h e g n =
     let none : drop (length text) (take k (drop a m)) ≡ [] = drop_all (length text) (take k (drop a m)) (simp length-take (omega arith)) in
     by_front p a k text m part ea (h ∙ sym (ap (λ (ys : List ℕ). text ++ ys) none ∙ append-nil text)) (omega arith) (omega arith) n
 
 -- what writes to two parts leave: the one up to the ring's end, the other from its start on
-pub by_two : (p a k l : ℕ) (front back m one two : List ℕ) → a ≡ p % capacity → one ≡ front → k ≡ length front → a + length front ≡ capacity → two ≡ back → l ≡ length back → length back ≤ capacity → length m ≡ capacity →
+pub by_two : (p a k l : ℕ) (front back m one two : List ℕ) → a ≡ p % capacity → one ≡ front → k ≡ length front → a + length front ≤ capacity → (0 < length back → a + length front ≡ capacity) → two ≡ back → l ≡ length back → length back ≤ capacity → length m ≡ capacity →
     put_mid 0 l (put_mid a k m one) two ≡ written p (front ++ back) m
-by_two p a k l front back m one two ea e1 ek ef e2 el hb size =
-    let w : put_mid a k m one ≡ written p front m = by_one p a k front m one ea e1 ek (omega arith) size in
-    let start : 0 ≡ (p + length front) % capacity = omega arith in
+by_two p a k l front back m one two ea e1 ek fits ef e2 el hb size =
+    let w : put_mid a k m one ≡ written p front m = by_one p a k front m one (λ _. sym ea) e1 ek fits size in
+    let start : 0 < length back → (p + length front) % capacity ≡ 0 = λ l. let f = ef l in omega arith in
     ap (λ (xs : List ℕ). put_mid 0 l xs two) w ∙ by_one (p + length front) 0 l back (written p front m) two start e2 el (omega arith) (length-written p front m ∙ size) ∙ sym (written-append p front back m)
 
 -- so many bytes in one part
@@ -138,19 +141,14 @@ held_at p (suc n) m (suc i) l = let e : p + 1 + i ≡ p + suc i = omega arith in
 pub held_one : (p a n : ℕ) (m : List ℕ) → a ≡ p % capacity → a + n ≤ capacity → length m ≡ capacity → take n (drop a m) ≡ held p n m
 held_one p a n m ea le size = sym (held_part p a n m (λ _. sym ea) le size)
 
--- a list is filled with what the ring holds, n bytes more
-pub held_more : (p a d n k : ℕ) (m before out part : List ℕ) → a ≡ (p + d) % capacity → a + n ≤ capacity → k ≡ n → d + n ≤ length before → length m ≡ capacity → out ≡ held p d m ++ drop d before → part ≡ take n (drop a m) →
-    put_mid d k out part ≡ held p (d + n) m ++ drop (d + n) before
-held_more p a d n k m before out part ea le ek fits size eo ep =
-    let front : take d out ≡ held p d m = ap (take d) eo ∙ take_at (held p d m) (drop d before) d (length-held p d m) in
-    let back : drop d out ≡ drop d before = ap (drop d) eo ∙ drop_at (held p d m) (drop d before) d (length-held p d m) in
-    let rest : drop k (drop d out) ≡ drop (d + n) before = ap (λ (i : ℕ). drop i (drop d out)) ek ∙ ap (drop n) back ∙ drop-drop n d before in
-    ap (λ (xs : List ℕ). xs ++ (part ++ drop k (drop d out))) front ∙ ap (λ (xs : List ℕ). held p d m ++ (part ++ xs)) rest ∙
-    ap (λ (xs : List ℕ). held p d m ++ (xs ++ drop (d + n) before)) (ep ∙ held_one (p + d) a n m ea le size) ∙ sym (append_assoc (held p d m) (held (p + d) n m) (drop (d + n) before)) ∙
-    sym (ap (λ (xs : List ℕ). xs ++ drop (d + n) before) (held-append p d n m))
+-- the bytes up to the ring's end, and those from its start on
+pub held_parts : (p a n j k all : ℕ) (m part rest : List ℕ) → a ≡ p % capacity → a + n ≤ capacity → length m ≡ capacity → j ≡ n → part ≡ take j (drop a m) → rest ≡ held (p + n) k m → all ≡ n + k → part ++ rest ≡ held p all m
+held_parts p a n j k all m part rest ea le size ej e1 e2 el = rw (e1, e2, ej, el) (ap (λ (xs : List ℕ). xs ++ held (p + n) k m) (held_one p a n m ea le size) ∙ sym (held-append p n k m))
 
-pub held_all : (p d : ℕ) (m before out : List ℕ) → d ≡ length before → out ≡ held p d m ++ drop d before → out ≡ held p (length before) m
-held_all p d m before out e eo = eo ∙ ap (λ (xs : List ℕ). held p d m ++ xs) (drop_all d before (omega arith)) ∙ append-nil (held p d m) ∙ ap (λ (n : ℕ). held p n m) e
+-- no bytes
+pub held_none : (p : ℕ) (m rest : List ℕ) → length rest ≡ 0 → rest ≡ held p 0 m
+unfolding held
+held_none p m rest e = nil_from_length rest e
 
 -- the front of a list, filled
 pub filled : (p n : ℕ) (m out part : List ℕ) → n ≤ length out → part ≡ held p (length (take n out)) m → part ≡ held p n m
@@ -160,18 +158,22 @@ pub two_parts : (xs front back : List ℕ) (n : ℕ) → front ≡ take n xs →
 two_parts xs front back n e1 e2 = rw (e1, e2) (take-append-drop n xs)
 
 -- what a source that fills one part leaves
-pub by_part : (p a k r : ℕ) (rest m part : List ℕ) → a ≡ p % capacity → part ≡ take r rest ++ drop r (take k (drop a m)) → r ≤ length rest → r ≤ k → a + k ≤ capacity → length m ≡ capacity → put_mid a k m part ≡ written p (take r rest) m
+pub by_part : (p a k r : ℕ) (rest m part : List ℕ) → (0 < r → p % capacity ≡ a) → part ≡ take r rest ++ drop r (take k (drop a m)) → r ≤ length rest → r ≤ k → a + k ≤ capacity → length m ≡ capacity → put_mid a k m part ≡ written p (take r rest) m
 by_part p a k r rest m part ea h le hr fits size =
     let n : length (take r rest) ≡ r = length-take-le r rest le in
-    by_front p a k (take r rest) m part ea (h ∙ ap (λ (i : ℕ). take r rest ++ drop i (take k (drop a m))) (sym n)) (omega arith) fits size
+    by_front p a k (take r rest) m part (λ s. ea (omega arith)) (h ∙ ap (λ (i : ℕ). take r rest ++ drop i (take k (drop a m))) (sym n)) (omega arith) fits size
 
--- what a source that fills two parts leaves: it fills the one up to the ring's end, and r bytes of the other
-pub by_source : (p a k w l r : ℕ) (rest left m one two : List ℕ) → a ≡ p % capacity → a + k ≡ capacity → w ≡ k → l ≤ capacity → w ≤ length rest → r ≤ l → r ≤ length left → left ≡ drop w rest → length m ≡ capacity →
+-- how long a part is that begins where the ring does, after that
+pub next_size : (p a k r l : ℕ) (rest m part : List ℕ) → (0 < r → p % capacity ≡ a) → part ≡ take r rest ++ drop r (take k (drop a m)) → r ≤ length rest → r ≤ k → a + k ≤ capacity → length m ≡ capacity → l ≤ capacity → length (take l (put_mid a k m part)) ≡ l
+next_size p a k r l rest m part ea h le hr fits size hl = length-take-le l (put_mid a k m part) (let e = ap length (by_part p a k r rest m part ea h le hr fits size) ∙ length-written p (take r rest) m ∙ size in omega arith)
+
+-- what a source that fills two parts leaves: it fills the one, and r bytes of the other, which begins where the ring does
+pub by_source : (p a k w l r : ℕ) (rest left m one two : List ℕ) → a ≡ p % capacity → a + k ≤ capacity → (0 < l → a + k ≡ capacity) → w ≡ k → l ≤ capacity → w ≤ length rest → r ≤ l → r ≤ length left → left ≡ drop w rest → length m ≡ capacity →
     one ≡ take w rest ++ drop w (take k (drop a m)) → two ≡ take r left ++ drop r (take l (put_mid a k m one)) → put_mid 0 l (put_mid a k m one) two ≡ written p (take (w + r) rest) m
-by_source p a k w l r rest left m one two ea ek ew hl hw hr hr2 el size e1 e2 =
+by_source p a k w l r rest left m one two ea fits ek ew hl hw hr hr2 el size e1 e2 =
     let n : length (take w rest) ≡ w = length-take-le w rest hw in
-    let first : put_mid a k m one ≡ written p (take w rest) m = by_part p a k w rest m one ea e1 hw (omega arith) (omega arith) size in
-    let start : 0 ≡ (p + length (take w rest)) % capacity = omega arith in
+    let first : put_mid a k m one ≡ written p (take w rest) m = by_part p a k w rest m one (λ _. sym ea) e1 hw (omega arith) fits size in
+    let start : 0 < r → (p + length (take w rest)) % capacity ≡ 0 = λ s. let f = ek (omega arith) in omega arith in
     by_part (p + length (take w rest)) 0 l r left (put_mid a k m one) two start e2 hr2 hr (omega arith) (ap length first ∙ length-written p (take w rest) m ∙ size) ∙
     ap (written (p + length (take w rest)) (take r left)) first ∙ sym (written-append p (take w rest) (take r left) m) ∙
     ap (λ (xs : List ℕ). written p (take w rest ++ take r xs) m) el ∙ sym (ap (λ (xs : List ℕ). written p xs m) (take-add w r rest))

@@ -6,7 +6,7 @@ use crate::ring::slot;
 use packet::settings::CAPACITY;
 
 /// Words with a bit for each byte of a ring.
-pub const WORDS: usize = 1024;
+pub const WORDS: usize = CAPACITY / 64;
 
 /// Whether the bit of a place is up.
 pub fn is_up(bits: &[u64; WORDS], place: u64) -> bool
@@ -16,45 +16,24 @@ pub fn is_up(bits: &[u64; WORDS], place: u64) -> bool
     (bits[at / 64] >> (at % 64)) & 1 == 1
 }
 
-/// A word with `count` bits up, from the bit `from` on.
-fn mask(from: usize, count: usize) -> u64
-    requires { (0 < count) × (from + count ≤ 64) }
-    ensures { result ≡ (2 ^ count - 1) * 2 ^ from }
+/// The word with its bits from `from` up to `to` put up or down.
+fn marked(word: u64, from: u64, to: u64, value: bool) -> u64
+    requires { (from < 64) × (0 < to) × (to ≤ 64) }
+    ensures { (j : ℕ) → j < 64 → bit result j ≡ (if nat_le from j && nat_lt j to then value else bit word j) }
 {
-    (u64::MAX >> (64 - count)) << from
+    let mask = (u64::MAX << from) & (u64::MAX >> (64 - to));
+    if value { word | mask } else { word & !mask }
 }
 
-/// The word with `count` bits put up or down, from the bit `from` on.
-fn marked(word: u64, from: usize, count: usize, value: bool) -> u64
-    requires { (0 < count) × (from + count ≤ 64) }
-    ensures { (j : ℕ) → j < 64 → bit result j ≡ (if nat_le from j && nat_lt j (from + count) then value else bit word j) }
-{
-    let m = mask(from, count);
-    if value { word | m } else { word & !m }
-}
-
-/// How many bits of a word in a row are down, from the bit `from` on.
-fn down_in(word: u64, from: usize) -> usize
+/// Up to which bit those of a word are as `value` says, from the bit `from` on: 64 where all of them are.
+fn run_end(word: u64, from: u64, value: bool) -> u64
     requires { from < 64 }
-    ensures within { from + result ≤ 64 }
-    ensures all { (j : ℕ) → from ≤ j → j < from + result → bit word j ≡ false }
-    ensures gap { from + result < 64 → bit word (from + result) ≡ true }
+    ensures within { (from ≤ result) × (result ≤ 64) }
+    ensures all { (j : ℕ) → from ≤ j → j < result → bit word j ≡ value }
+    ensures gap { result < 64 → bit word result ≡ not value }
 {
-    ((word >> from).trailing_zeros() as usize).min(64 - from)
-}
-
-/// How many bits of a word in a row are as `value` says, from the bit `from` on.
-fn run_in(word: u64, from: usize, value: bool) -> usize
-    requires { from < 64 }
-    ensures within { from + result ≤ 64 }
-    ensures all { (j : ℕ) → from ≤ j → j < from + result → bit word j ≡ value }
-    ensures gap { from + result < 64 → bit word (from + result) ≡ not value }
-{
-    if value {
-        down_in(!word, from)
-    } else {
-        down_in(word, from)
-    }
+    let others = if value { !word } else { word };
+    (from + u64::from((others >> from).trailing_zeros())).min(64)
 }
 
 /// Puts the bits of `n` places up or down, from a place on.
@@ -62,21 +41,13 @@ pub fn mark(bits: &mut [u64; WORDS], place: u64, n: u64, value: bool)
     requires { (n ≤ capacity) × (place + n < 2 ^ 64) }
     ensures { Marked place n value bits.old bits.new }
 {
-    let mut done: u64 = 0;
-    while done < n {
-        let at = slot(place + done);
-        let from = at % 64;
-        let count = (64 - from).min((n - done) as usize);
-        bits[at / 64] = marked(bits[at / 64], from, count, value);
-        done += count as u64;
+    let end = place + n;
+    for word in place / 64..end.div_ceil(64) {
+        let from = place.saturating_sub(64 * word);
+        let to = (end - 64 * word).min(64);
+        let at = (word % WORDS as u64) as usize;
+        bits[at] = marked(bits[at], from, to, value);
     }
-}
-
-/// Puts all bits down.
-pub fn clear(bits: &mut [u64; WORDS])
-    ensures { AllAre 0 capacity false bits.new }
-{
-    mark(bits, 0, CAPACITY as u64, false);
 }
 
 /// How many bits in a row are as `value` says, at most `most`, from a place on.
@@ -86,14 +57,16 @@ pub fn run(bits: &[u64; WORDS], place: u64, most: u64, value: bool) -> u64
     ensures all { AllAre place result value bits.now }
     ensures gap { result < most → up bits.now (place + result) ≡ not value }
 {
-    let mut n: u64 = 0;
-    'gap: while n < most {
-        let at = slot(place + n);
-        let count = run_in(bits[at / 64], at % 64, value).min((most - n) as usize);
-        n += count as u64;
-        if at % 64 + count < 64 {
+    let mut end = place + most;
+    // A loop over words that a label leaves at the first gap: the project asks for this form here.
+    'gap: for word in place / 64..end.div_ceil(64) {
+        let from = place.saturating_sub(64 * word);
+        let at = (word % WORDS as u64) as usize;
+        let stop = run_end(bits[at], from, value);
+        if stop < 64 {
+            end = end.min(64 * word + stop);
             break 'gap;
         }
     }
-    n
+    end - place
 }

@@ -6,14 +6,15 @@ ghost use Rattle.lent.specs.Sending.{limit};
 ghost use Rattle.lent.specs.Bits.{AllAre};
 ghost use Rattle.lent.specs.Rings.{Holds};
 
-use crate::bits::{WORDS, mark, run};
-use crate::gaps::fill_gaps;
+use crate::bits::{mark, run};
+use crate::inbox::Inbox;
+use crate::incoming::Incoming;
 use crate::ring::get;
 use packet::settings::CAPACITY;
 
 /// The numbers of the bytes that came: those got and not taken, and those kept before their turn, stand in one ring, with bits
 /// that say which places are kept.
-#[derive(Clone, Copy)]
+#[derive(Clone, Copy, PartialEq, Eq, Debug)]
 pub struct Receiver {
     /// How many bytes came in order.
     pub got: u64,
@@ -38,32 +39,25 @@ impl Receiver {
     }
 
     /// Moves bytes that were got and not taken into `out`, as many as there are or as it takes, and says how many.
-    pub fn take(mut self, ring: &[u8; CAPACITY], out: &mut [u8]) -> (Receiver, usize)
+    pub fn take(mut self, inbox: &Inbox, out: &mut [u8]) -> (Receiver, usize)
         ensures holds { (window : ℕ) (ring bits g : List ℕ) (ks : List Piece) → Holds window self ring bits g ks → Holds window result.0 ring bits g ks }
         ensures count { result.1 ≡ min (length out.old) (self.got - self.taken) }
         ensures got { result.0.got ≡ self.got }
         ensures taken { result.0.taken ≡ self.taken + result.1 }
-        ensures bytes { (window : ℕ) (bits g : List ℕ) (ks : List Piece) → Holds window self ring.now bits g ks → out.new ≡ take result.1 (drop self.taken g) ++ drop result.1 out.old }
+        ensures bytes { (window : ℕ) (bits g : List ℕ) (ks : List Piece) → Holds window self inbox.now.ring bits g ks → out.new ≡ take result.1 (drop self.taken g) ++ drop result.1 out.old }
     {
         let n = (out.len() as u64).min(self.available()) as usize;
-        get(ring, self.taken, &mut out[..n]);
+        get(&inbox.ring, self.taken, &mut out[..n]);
         self.taken += n as u64;
         (self, n)
     }
 
     /// Keeps what it may of a text that came: no byte whose turn has passed, for which there is no room, or whose place is kept
     /// already.
-    pub fn keep_all(
-        self,
-        ring: &mut [u8; CAPACITY],
-        bits: &mut [u64; WORDS],
-        window: u64,
-        place: u64,
-        text: &[u8],
-    )
-        requires { place + length text.now ≤ limit }
-        ensures { (g : List ℕ) (ks : List Piece) → Holds window self ring.old bits.old g ks → Holds window self ring.new bits.new g (keep (length g) (self.taken + window) place text.now ks) }
+    pub fn keep_all(self, inbox: &mut Inbox, window: u64, incoming: &Incoming)
+        ensures { (g : List ℕ) (ks : List Piece) → Holds window self inbox.old.ring inbox.old.bits g ks → Holds window self inbox.new.ring inbox.new.bits g (keep (length g) (self.taken + window) incoming.now.head.place incoming.now.text.now ks) }
     {
+        let (place, text) = (incoming.head.place, incoming.text);
         let edge = self
             .taken
             .saturating_add(window)
@@ -71,18 +65,15 @@ impl Receiver {
         let from = place.max(self.got);
         let to = edge.min(place + text.len() as u64);
         if from < to {
-            fill_gaps(
-                ring,
-                bits,
-                from,
-                &text[(from - place) as usize..(to - place) as usize],
-            );
+            let part = &text[(from - place) as usize..(to - place) as usize];
+            inbox.fill_gaps(from, part);
         }
     }
 
     /// Hands bytes on as long as the next one is kept.
-    pub fn advance(mut self, bits: &mut [u64; WORDS], window: u64) -> Receiver
-        ensures holds { (ring g : List ℕ) (ks : List Piece) → Holds window self ring bits.old g ks → Holds window result ring bits.new (g ++ turn (length ks) (length g) ks) (from (length (g ++ turn (length ks) (length g) ks)) ks) }
+    pub fn advance(mut self, inbox: &mut Inbox, window: u64) -> Receiver
+        ensures holds { (ring g : List ℕ) (ks : List Piece) → Holds window self ring inbox.old.bits g ks → Holds window result ring inbox.new.bits (g ++ turn (length ks) (length g) ks) (from (length (g ++ turn (length ks) (length g) ks)) ks) }
+        ensures ring { inbox.new.ring ≡ inbox.old.ring }
         ensures taken { result.taken ≡ self.taken }
     {
         let room = self
@@ -90,8 +81,8 @@ impl Receiver {
             .saturating_add(window)
             .saturating_sub(self.got)
             .min(CAPACITY as u64);
-        let n = run(bits, self.got, room, true);
-        mark(bits, self.got, n, false);
+        let n = run(&inbox.bits, self.got, room, true);
+        mark(&mut inbox.bits, self.got, n, false);
         self.got += n;
         self
     }

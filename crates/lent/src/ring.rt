@@ -18,14 +18,9 @@ pub fn put(ring: &mut [u8; CAPACITY], place: u64, text: &[u8])
     ensures { ring.new ≡ written place text.now ring.old }
 {
     let at = slot(place);
-    let first = CAPACITY - at;
-    if text.len() <= first {
-        ring[at..at + text.len()].copy_from_slice(text);
-    } else {
-        let (front, back) = text.split_at(first);
-        ring[at..].copy_from_slice(front);
-        ring[..back.len()].copy_from_slice(back);
-    }
+    let (front, back) = text.split_at(text.len().min(CAPACITY - at));
+    ring[at..at + front.len()].copy_from_slice(front);
+    ring[..back.len()].copy_from_slice(back);
 }
 
 /// Reads as many bytes as `out` has, from a place on; no more than two copies for what a ring holds.
@@ -33,11 +28,10 @@ pub fn get(ring: &[u8; CAPACITY], place: u64, out: &mut [u8])
     requires { place + length out.old < 2 ^ 64 }
     ensures { out.new ≡ held place (length out.old) ring.now }
 {
-    let mut done = 0;
-    while done < out.len() {
-        let at = slot(place + done as u64);
-        let n = (CAPACITY - at).min(out.len() - done);
-        out[done..done + n].copy_from_slice(&ring[at..at + n]);
-        done += n;
+    let at = slot(place);
+    let (part, rest) = out.split_at_mut(out.len().min(CAPACITY - at));
+    part.copy_from_slice(&ring[at..at + part.len()]);
+    if !rest.is_empty() {
+        get(ring, place + part.len() as u64, rest);
     }
 }

@@ -1,4 +1,4 @@
-ghost use Rattle.std.specs.Prelude.{◌≡◌, ℕ, ◌+◌, ◌-◌, ◌≤◌, min, List, [], ◌++◌, length, take, drop, nat_lt};
+ghost use Rattle.std.specs.Prelude.{◌≡◌, ℕ, ◌+◌, ◌-◌, ◌≤◌, min, IsTrue, List, [], ◌++◌, length, take, drop, nat_lt};
 ghost use Rattle.hold.specs.Packet.{larger};
 ghost use Rattle.packet.specs.Sizes.{capacity};
 ghost use Rattle.lent.specs.Sending.{free};
@@ -9,10 +9,10 @@ use crate::source::{Source, fill_from};
 use packet::settings::CAPACITY;
 
 /// No stream has more bytes than these.
-pub const MOST: u64 = 4611686018427387904;
+pub const MOST: u64 = 1 << 62;
 
 /// The numbers of the bytes to be sent: those given and not confirmed stand in the ring.
-#[derive(Clone, Copy)]
+#[derive(Clone, Copy, PartialEq, Eq, Debug)]
 pub struct Sender {
     /// How many bytes the user gave.
     pub given: u64,
@@ -69,6 +69,7 @@ impl Sender {
     ) -> (Sender, usize)
         ensures waits { (g : List ℕ) → Waits self ring.old g → Waits result.0 ring.new (g ++ take result.1 (S.Source.rest source.old)) }
         ensures count { result.1 ≤ min most (free self.given self.upto) }
+        ensures all { IsTrue S.Source.eager → result.1 ≡ min (min most (free self.given self.upto)) (min capacity (length (S.Source.rest source.old))) }
         ensures rest { S.Source.rest source.new ≡ drop result.1 (S.Source.rest source.old) }
         ensures upto { result.0.upto ≡ self.upto }
     {
@@ -84,9 +85,7 @@ impl Sender {
         ensures given { result.given ≡ self.given }
         ensures upto { result.upto ≡ larger self.upto upto }
     {
-        if self.upto < upto {
-            self.upto = upto;
-        }
+        self.upto = self.upto.max(upto);
         self
     }
 

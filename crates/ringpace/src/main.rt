@@ -3,10 +3,11 @@
 
 ghost use Rattle.std.specs.Prelude.{◌≤◌};
 
-use lent::bits::WORDS;
+use lent::inbox::Memory;
+use lent::incoming::Incoming;
 use lent::receiver::Receiver;
 use lent::sender::{MOST, Sender};
-use packet::settings::CAPACITY;
+use packet::packet::{Kind, Packet};
 
 const TEXT: usize = 1024;
 
@@ -16,11 +17,10 @@ const WINDOW: u64 = 65536;
 fn carry(texts: u64) -> u64
     ensures { result ≤ texts }
 {
-    let mut sending = [0u8; CAPACITY];
-    let mut receiving = [0u8; CAPACITY];
-    let mut bits = [0u64; WORDS];
+    let mut memory = Memory::new();
     let mut sender = Sender::new();
     let mut receiver = Receiver::new();
+    let mut head = Packet::bare(Kind::Text, 1, 1).head;
     let mut text = [0u8; TEXT];
     let mut packet = [0u8; TEXT];
     let mut out = [0u8; TEXT];
@@ -28,16 +28,21 @@ fn carry(texts: u64) -> u64
     for i in 0..texts {
         let at = (i % TEXT as u64) as usize;
         text[at] = text[at].wrapping_add(1);
-        let (given, _) = sender.give(&mut sending, &text);
+        let (given, _) = sender.give(&mut memory.out, &text);
         let place = given.upto;
         if place > MOST {
             return right;
         }
-        let n = given.read(&sending, place, TEXT as u64, &mut packet);
-        receiver.keep_all(&mut receiving, &mut bits, WINDOW, place, &packet[..n]);
+        let n = given.read(&memory.out, place, TEXT as u64, &mut packet);
+        head.place = place;
+        let incoming = Incoming {
+            head,
+            text: &packet[..n],
+        };
+        receiver.keep_all(&mut memory.inbox, WINDOW, &incoming);
         let (taken, count) = receiver
-            .advance(&mut bits, WINDOW)
-            .take(&receiving, &mut out);
+            .advance(&mut memory.inbox, WINDOW)
+            .take(&memory.inbox, &mut out);
         sender = given.confirm(taken.got);
         receiver = taken;
         if count == TEXT && out[at] == text[at] {

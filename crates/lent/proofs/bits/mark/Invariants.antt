@@ -1,9 +1,6 @@
-use Rattle.std.proofs.Common.{◌-◌, ◌≤◌}
+use Rattle.std.proofs.Common.{◌-◌, ◌*◌, min}
 use Rattle.lent.specs.Bits.{Marked}
 use Rattle.lent.proofs.bits.mark.Given as goal
 
-abbrev pub invariant-loop-done : goal.invariant-loop-done
-invariant-loop-done l = (l.done ≤ l.n) × Marked l.place l.done l.value l.initial.bits l.bits
-
-abbrev pub decreases-loop-done : goal.decreases-loop-done
-decreases-loop-done l = l.n - l.done
+abbrev pub invariant-loop-word : goal.invariant-loop-word
+invariant-loop-word l = Marked l.place (min l.n (64 * l.word - l.place)) l.value l.initial.bits l.bits

@@ -8,5 +8,5 @@ returns c = record {
   count = omega arith;
   got = refl;
   taken = refl;
-  bytes = (λ w bits g ks h. taken_bytes w c.args.self.got c.args.self.taken c.min-n.result c.args.ring.now bits c.args.out.now c.get.new.out g ks (omega arith) c.get.ensures h);
+  bytes = (λ w bits g ks h. taken_bytes w c.args.self.got c.args.self.taken c.min-n.result c.args.inbox.now.ring bits c.args.out.now c.get.new.out g ks (omega arith) c.get.ensures h);
 }
