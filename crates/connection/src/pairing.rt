@@ -10,6 +10,7 @@ use crate::phase::Phase;
 pub struct Pairing {
     pub mine: u64,
     /// The other's tag; 0 as long as this end only asked.
+    // Not an Option: it would be unwrapped to 0 for each packet that goes out and each test of a tag, and one that is gone keeps its tag too.
     pub theirs: u64,
     pub phase: Phase,
 }
@@ -55,22 +56,16 @@ impl Pairing {
         self.phase == Phase::Open
     }
 
-    pub fn open_with(self, theirs: u64) -> Pairing
-        ensures { result ≡ opened_with theirs self }
+    pub fn open_with(&mut self, theirs: u64)
+        ensures { self.new ≡ opened_with theirs self.old }
     {
-        Pairing {
-            phase: Phase::Open,
-            theirs,
-            ..self
-        }
+        self.phase = Phase::Open;
+        self.theirs = theirs;
     }
 
-    pub fn gone(self) -> Pairing
-        ensures { result ≡ over self }
+    pub fn end(&mut self)
+        ensures { self.new ≡ over self.old }
     {
-        Pairing {
-            phase: Phase::Gone,
-            ..self
-        }
+        self.phase = Phase::Gone;
     }
 }
