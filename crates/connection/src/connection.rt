@@ -37,57 +37,65 @@ impl Connection {
         }
     }
 
-    pub fn open_with(&mut self, theirs: u64)
-        ensures { (cfg : m.Settings) (mem : Rings) → ActsAs cfg self.old mem self.new mem (open_with theirs) }
+    pub fn open_with(mut self, theirs: u64) -> Connection
+        ensures { (cfg : m.Settings) (mem : Rings) → ActsAs cfg self mem result mem (open_with theirs) }
     {
-        self.pairing.open_with(theirs);
+        self.pairing = self.pairing.open_with(theirs);
+        self
     }
 
-    /// The connection is gone.
-    pub fn end(&mut self)
-        ensures { (cfg : m.Settings) (mem : Rings) → ActsAs cfg self.old mem self.new mem (in_phase Gone) }
+    pub fn gone(mut self) -> Connection
+        ensures acts { (cfg : m.Settings) (mem : Rings) → ActsAs cfg self mem result mem (in_phase Gone) }
+        ensures left { (cfg : m.Settings) (mem : Rings) (c : Conn) → LeftOver cfg self mem c → LeftOver cfg result mem c }
     {
-        self.pairing.end();
+        self.pairing = self.pairing.gone();
+        self
     }
 
-    pub fn close(&mut self)
-        ensures { (cfg : m.Settings) (mem : Rings) → ActsAs cfg self.old mem self.new mem closes }
+    pub fn close(mut self) -> Connection
+        ensures { (cfg : m.Settings) (mem : Rings) → ActsAs cfg self mem result mem closes }
     {
-        self.stream.close();
+        self.stream = self.stream.close();
+        self
     }
 
     /// As many of the bytes as have room, and how many; none once closed.
-    pub fn give(&mut self, ring: &mut [u8; CAPACITY], bytes: &[u8]) -> usize
-        ensures acts { (cfg : m.Settings) (into bits : List ℕ) → ActsAs cfg self.old (rings ring.old into bits) self.new (rings ring.new into bits) (gives (take result bytes.now)) }
-        ensures count { result ≡ (if self.old.stream.closed then 0 else min (length bytes.now) (free self.old.stream.sender.given self.old.stream.sender.upto)) }
+    pub fn give(mut self, ring: &mut [u8; CAPACITY], bytes: &[u8]) -> (Connection, usize)
+        ensures acts { (cfg : m.Settings) (into bits : List ℕ) → ActsAs cfg self (rings ring.old into bits) result.0 (rings ring.new into bits) (gives (take result.1 bytes.now)) }
+        ensures count { result.1 ≡ (if self.stream.closed then 0 else min (length bytes.now) (free self.stream.sender.given self.stream.sender.upto)) }
     {
-        self.stream.give(ring, bytes)
+        let (stream, n) = self.stream.give(ring, bytes);
+        self.stream = stream;
+        (self, n)
     }
 
     /// Moves bytes that the user got and has not taken into `out`, and says how many. Of a connection that is gone too.
-    pub fn take(&mut self, ring: &[u8; CAPACITY], out: &mut [u8]) -> usize
-        ensures acts { (cfg : m.Settings) (mem : Rings) → ActsAs cfg self.old mem self.new mem (takes (length out.old)) }
-        ensures took { (cfg : m.Settings) (given bits : List ℕ) (c : Conn) → Stand1 cfg self.old (rings given ring.now bits) c → Took c out.old out.new result }
-        ensures drained { (cfg : m.Settings) (given bits : List ℕ) (c : Conn) → LeftOver cfg self.old (rings given ring.now bits) c → Drained cfg self.old self.new (rings given ring.now bits) c out.old out.new result }
+    pub fn take(mut self, ring: &[u8; CAPACITY], out: &mut [u8]) -> (Connection, usize)
+        ensures acts { (cfg : m.Settings) (mem : Rings) → ActsAs cfg self mem result.0 mem (takes (length out.old)) }
+        ensures took { (cfg : m.Settings) (given bits : List ℕ) (c : Conn) → Stand1 cfg self (rings given ring.now bits) c → Took c out.old out.new result.1 }
+        ensures drained { (cfg : m.Settings) (given bits : List ℕ) (c : Conn) → LeftOver cfg self (rings given ring.now bits) c → Drained cfg self result.0 (rings given ring.now bits) c out.old out.new result.1 }
     {
-        self.stream.take(ring, out)
+        let (stream, n) = self.stream.take(ring, out);
+        self.stream = stream;
+        (self, n)
     }
 
     /// A text from the other's tag, which opens the connection if it was half open. The caller refuses one that reaches beyond the
     /// limit of all places first, as for `Stream::hear`.
     pub fn hear(
-        &mut self,
+        self,
         ring: &mut [u8; CAPACITY],
         bits: &mut [u64; WORDS],
         settings: Settings,
         p: Head,
         text: &[u8],
-    )
+    ) -> Connection
         requires { p.place + length text.now ≤ limit }
-        ensures { (out : List ℕ) → ActsAs (cfg_of settings) self.old (rings out ring.old bits.old) self.new (rings out ring.new bits.new) (λ d. hears (cfg_of settings) (packet_of p text.now) (open_with p.from d)) }
+        ensures { (out : List ℕ) → ActsAs (cfg_of settings) self (rings out ring.old bits.old) result (rings out ring.new bits.new) (λ d. hears (cfg_of settings) (packet_of p text.now) (open_with p.from d)) }
     {
-        self.open_with(p.from);
-        self.stream.hear(ring, bits, settings, p, text);
+        let mut opened = self.open_with(p.from);
+        opened.stream = opened.stream.hear(ring, bits, settings, p, text);
+        opened
     }
 
     /// The text from a place on, which is not confirmed, with at most so many bytes.

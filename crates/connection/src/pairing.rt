@@ -56,16 +56,22 @@ impl Pairing {
         self.phase == Phase::Open
     }
 
-    pub fn open_with(&mut self, theirs: u64)
-        ensures { self.new ≡ opened_with theirs self.old }
+    pub fn open_with(self, theirs: u64) -> Pairing
+        ensures { result ≡ opened_with theirs self }
     {
-        self.phase = Phase::Open;
-        self.theirs = theirs;
+        Pairing {
+            phase: Phase::Open,
+            theirs,
+            ..self
+        }
     }
 
-    pub fn end(&mut self)
-        ensures { self.new ≡ over self.old }
+    pub fn gone(self) -> Pairing
+        ensures { result ≡ over self }
     {
-        self.phase = Phase::Gone;
+        Pairing {
+            phase: Phase::Gone,
+            ..self
+        }
     }
 }

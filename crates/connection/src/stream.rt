@@ -46,48 +46,49 @@ impl Stream {
         }
     }
 
-    pub fn close(&mut self)
-        ensures { (cfg : m.Settings) (mem : Rings) → Flows cfg self.old mem self.new mem closes }
+    pub fn close(mut self) -> Stream
+        ensures { (cfg : m.Settings) (mem : Rings) → Flows cfg self mem result mem closes }
     {
         self.closed = true;
+        self
     }
 
     /// As many of the bytes as have room, and how many; none once closed.
-    pub fn give(&mut self, ring: &mut [u8; CAPACITY], bytes: &[u8]) -> usize
-        ensures acts { (cfg : m.Settings) (into bits : List ℕ) → Flows cfg self.old (rings ring.old into bits) self.new (rings ring.new into bits) (gives (take result bytes.now)) }
-        ensures count { result ≡ (if self.old.closed then 0 else min (length bytes.now) (free self.old.sender.given self.old.sender.upto)) }
+    pub fn give(mut self, ring: &mut [u8; CAPACITY], bytes: &[u8]) -> (Stream, usize)
+        ensures acts { (cfg : m.Settings) (into bits : List ℕ) → Flows cfg self (rings ring.old into bits) result.0 (rings ring.new into bits) (gives (take result.1 bytes.now)) }
+        ensures count { result.1 ≡ (if self.closed then 0 else min (length bytes.now) (free self.sender.given self.sender.upto)) }
     {
         if self.closed {
-            return 0;
+            return (self, 0);
         }
         let (sender, n) = self.sender.give(ring, bytes);
         self.sender = sender;
-        n
+        (self, n)
     }
 
     /// Moves bytes that the user got and has not taken into `out`, and says how many.
-    pub fn take(&mut self, ring: &[u8; CAPACITY], out: &mut [u8]) -> usize
-        ensures acts { (cfg : m.Settings) (mem : Rings) → Flows cfg self.old mem self.new mem (takes (length out.old)) }
-        ensures kept { (window : ℕ) (ring bits g : List ℕ) (ks : List m.Piece) → Holds window self.old.receiver ring bits g ks → Holds window self.new.receiver ring bits g ks }
-        ensures ended { self.new.ended ≡ self.old.ended }
-        ensures moved { Moved self.old ring.now out.old out.new result }
+    pub fn take(mut self, ring: &[u8; CAPACITY], out: &mut [u8]) -> (Stream, usize)
+        ensures acts { (cfg : m.Settings) (mem : Rings) → Flows cfg self mem result.0 mem (takes (length out.old)) }
+        ensures kept { (window : ℕ) (ring bits g : List ℕ) (ks : List m.Piece) → Holds window self.receiver ring bits g ks → Holds window result.0.receiver ring bits g ks }
+        ensures ended { result.0.ended ≡ self.ended }
+        ensures moved { Moved self ring.now out.old out.new result.1 }
     {
         let (receiver, n) = self.receiver.take(ring, out);
         self.receiver = receiver;
-        n
+        (self, n)
     }
 
     /// What a text says, and its bytes, before any is handed on.
     fn heard(
-        &mut self,
+        mut self,
         ring: &mut [u8; CAPACITY],
         bits: &mut [u64; WORDS],
         settings: Settings,
         p: Head,
         text: &[u8],
-    )
+    ) -> Stream
         requires { p.place + length text.now ≤ limit }
-        ensures { (out : List ℕ) → Flows (cfg_of settings) self.old (rings out ring.old bits.old) self.new (rings out ring.new bits.new) (heard (cfg_of settings) (packet_of p text.now)) }
+        ensures { (out : List ℕ) → Flows (cfg_of settings) self (rings out ring.old bits.old) result (rings out ring.new bits.new) (heard (cfg_of settings) (packet_of p text.now)) }
     {
         self.sees = self.sees.max(p.edge);
         self.sender = self.sender.confirm(p.upto);
@@ -95,31 +96,33 @@ impl Stream {
         self.end = self.end.or(p.last.then_some(p.place + text.len() as u64));
         self.receiver
             .keep_all(ring, bits, settings.room, p.place, text);
+        self
     }
 
     /// Bytes whose turn has come are handed on, and the user is told the end where it is reached.
-    fn advance(&mut self, bits: &mut [u64; WORDS], settings: Settings)
-        ensures { (out into : List ℕ) → Flows (cfg_of settings) self.old (rings out into bits.old) self.new (rings out into bits.new) advance }
+    fn advance(mut self, bits: &mut [u64; WORDS], settings: Settings) -> Stream
+        ensures { (out into : List ℕ) → Flows (cfg_of settings) self (rings out into bits.old) result (rings out into bits.new) advance }
     {
         self.receiver = self.receiver.advance(bits, settings.room);
         self.ended |= self.end == Some(self.receiver.got);
+        self
     }
 
     /// A text from the other. Its bytes must not reach beyond the limit of all places, 2^62 and a text's bytes: the caller refuses
     /// one that does, as no stream has so many bytes.
     pub fn hear(
-        &mut self,
+        self,
         ring: &mut [u8; CAPACITY],
         bits: &mut [u64; WORDS],
         settings: Settings,
         p: Head,
         text: &[u8],
-    )
+    ) -> Stream
         requires { p.place + length text.now ≤ limit }
-        ensures { (out : List ℕ) → Flows (cfg_of settings) self.old (rings out ring.old bits.old) self.new (rings out ring.new bits.new) (hears (cfg_of settings) (packet_of p text.now)) }
+        ensures { (out : List ℕ) → Flows (cfg_of settings) self (rings out ring.old bits.old) result (rings out ring.new bits.new) (hears (cfg_of settings) (packet_of p text.now)) }
     {
-        self.heard(ring, bits, settings, p, text);
-        self.advance(bits, settings);
+        self.heard(ring, bits, settings, p, text)
+            .advance(bits, settings)
     }
 
     /// Whether a text that ends at a place is the last.
