@@ -73,7 +73,10 @@ impl<'m> Endpoint<'m> {
     fn kept(&self, tag: u64) -> Result<usize, Refusal>
         ensures { InLaneOf (lane_of tag self.now) result }
     {
-        self.living(tag).or(self.table.find(Wanted::Gone(tag)).ok_or(Refusal::NotThere))
+        let living = self.table.find(Wanted::Tag(tag));
+        living
+            .or(self.table.find(Wanted::Gone(tag)))
+            .ok_or(Refusal::NotThere)
     }
 
     /// A connection more, over memory that is made ready for it.
