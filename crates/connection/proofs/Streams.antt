@@ -1,5 +1,8 @@
 -- Steps of a stream, between whomever it is.
-use Rattle.std.proofs.Common.{◌≡◌, ℕ, ◌+◌, ◌-◌, ◌≤◌, min, max, Bool, false, cond, ◌||◌, List, [], ◌++◌, length, sym, ap, ◌∙◌, arith}
+use Rattle.std.specs.Bool.{then_some}
+use Rattle.std.specs.Option.{option_eq, option_or}
+use Rattle.std.specs.Prelude.{nat_eq}
+use Rattle.std.proofs.Common.{◌≡◌, ℕ, ◌+◌, ◌-◌, ◌≤◌, min, max, Bool, true, false, Some, refl, cond, ◌||◌, List, [], ◌++◌, length, Option, None, sym, ap, ◌∙◌, arith}
 use Rattle.std.proofs.lemmas.Bool.{cond-false}
 use Rattle.hold.specs.Packet as m
 use Rattle.hold.specs.Packet.{Piece, larger, lower}
@@ -12,13 +15,11 @@ use Rattle.lent.specs.declared.sender.Sender.{Sender}
 use Rattle.lent.specs.declared.receiver.Receiver.{Receiver}
 use Rattle.connection.specs.Phases.{last_of}
 use Rattle.connection.specs.Stand.{Past, conn_of, Flows, Began, Rings, rings, join}
-use Rattle.connection.specs.declared.phase.Last.{Last}
-use Rattle.connection.specs.declared.phase.Last.TheVariants.{NotSaid}
 use Rattle.connection.specs.declared.stream.Stream.{Stream}
 
 pub begins : (s : Sender) (r : Receiver) → ((ring : List ℕ) → length ring ≡ capacity → Waits s ring []) → s.upto ≡ 0 →
     ((w : ℕ) (ring bits : List ℕ) → w ≤ capacity → length ring ≡ capacity → AllAre 0 capacity false bits → Holds w r ring bits [] []) → r.taken ≡ 0 →
-    Began (record { sender = s; receiver = r; closed = false; sees = 0; all = false; end = NotSaid; ended = false })
+    Began (record { sender = s; receiver = r; closed = false; sees = 0; all = false; end = None; ended = false })
 begins s r w eu h et cfg q mem le fresh = record {
   past = record { opened = false; given = []; got = []; kept = [] };
   is = cc;
@@ -50,24 +51,34 @@ flows_take cfg x r k n en et h mem q c st =
     let i : conn_of (join q (with_receiver x r x.ended)) st.past ≡ takes k (conn_of (join q x) st.past) = cc in
     record { past = st.past; is = i ∙ ap (takes k) st.is; waits = st.waits; holds = h cfg.room mem.into mem.bits g st.past.kept st.holds }
 
-pub flows_advance : (cfg : m.Settings) (x : Stream) (r : Receiver) (b : Bool) (bits bits2 : List ℕ) → r.taken ≡ x.receiver.taken → b ≡ (x.ended || ends (last_of x.end) r.got) →
+-- whether the end is at a place, and what a text says of it, by the code's option
+ends-at : (e : Option ℕ) (n : ℕ) → option_eq nat_eq e (Some n) ≡ ends (last_of e) n
+ends-at None n = refl
+ends-at (Some p) n = refl
+
+said-or : (e : Option ℕ) (l : Bool) (n : ℕ) → last_of (option_or e (then_some l n)) ≡ said l n (last_of e)
+said-or (Some p) l n = refl
+said-or None true n = refl
+said-or None false n = refl
+
+pub flows_advance : (cfg : m.Settings) (x : Stream) (r : Receiver) (b : Bool) (bits bits2 : List ℕ) → r.taken ≡ x.receiver.taken → b ≡ option_eq nat_eq x.end (Some r.got) →
     ((ring g : List ℕ) (ks : List Piece) → Holds cfg.room x.receiver ring bits g ks → Holds cfg.room r ring bits2 (g ++ turn (length ks) (length g) ks) (from (length (g ++ turn (length ks) (length g) ks)) ks)) →
-    (out into : List ℕ) → Flows cfg x (rings out into bits) (with_receiver x r b) (rings out into bits2) advance
+    (out into : List ℕ) → Flows cfg x (rings out into bits) (with_receiver x r (x.ended || b)) (rings out into bits2) advance
 flows_advance cfg x r b bits bits2 et eb h out into q c st =
     let g = st.past.got in
     let ks = st.past.kept in
     let g2 = g ++ turn (length ks) (length g) ks in
     let p : Past = record { opened = st.past.opened; given = st.past.given; got = g2; kept = from (length g2) ks } in
     let h2 = h into g ks st.holds in
-    let e : b ≡ (x.ended || ends (last_of x.end) (length g2)) = eb ∙ ap (λ k. x.ended || ends (last_of x.end) k) h2.got_all in
-    let i : conn_of (join q (with_receiver x r b)) p ≡ advance (conn_of (join q x) st.past) = cc in
+    let e : b ≡ ends (last_of x.end) (length g2) = eb ∙ ends-at x.end r.got ∙ ap (ends (last_of x.end)) h2.got_all in
+    let i : conn_of (join q (with_receiver x r (x.ended || b))) p ≡ advance (conn_of (join q x) st.past) = cc in
     record { past = p; is = i ∙ ap advance st.is; waits = st.waits; holds = h2 }
 
-abbrev pub heard_by : Stream → ℕ → Bool → Last → Sender → Stream
+abbrev pub heard_by : Stream → ℕ → Bool → Option ℕ → Sender → Stream
 heard_by x sees all end s = record { sender = s; receiver = x.receiver; closed = x.closed; sees = sees; all = all; end = end; ended = x.ended }
 
-pub flows_heard : (cfg : m.Settings) (x : Stream) (p : m.Packet) (sees : ℕ) (end : Last) (s : Sender) (ring bits ring2 bits2 : List ℕ) → sees ≡ max x.sees p.edge →
-    last_of end ≡ said p.last (p.place + length p.text) (last_of x.end) → s.upto ≡ larger x.sender.upto p.upto → ((ring g : List ℕ) → Waits x.sender ring g → Waits s ring g) →
+pub flows_heard : (cfg : m.Settings) (x : Stream) (p : m.Packet) (sees : ℕ) (end : Option ℕ) (s : Sender) (ring bits ring2 bits2 : List ℕ) → sees ≡ max x.sees p.edge →
+    end ≡ option_or x.end (then_some p.last (p.place + length p.text)) → s.upto ≡ larger x.sender.upto p.upto → ((ring g : List ℕ) → Waits x.sender ring g → Waits s ring g) →
     ((g : List ℕ) (ks : List Piece) → Holds cfg.room x.receiver ring bits g ks → Holds cfg.room x.receiver ring2 bits2 g (keep (length g) (x.receiver.taken + cfg.room) p.place p.text ks)) →
     (out : List ℕ) → Flows cfg x (rings out ring bits) (heard_by x sees (x.all || p.all) end s) (rings out ring2 bits2) (heard cfg p)
 flows_heard cfg x p sees end s ring bits ring2 bits2 es ee eu w h out q c st =
@@ -75,5 +86,6 @@ flows_heard cfg x p sees end s ring bits ring2 bits2 es ee eu w h out q c st =
     let ks = keep (length g) (x.receiver.taken + cfg.room) p.place p.text st.past.kept in
     let b : Past = record { opened = st.past.opened; given = st.past.given; got = g; kept = ks } in
     let e : sees ≡ larger x.sees p.edge = es ∙ sym (larger_lib x.sees p.edge) in
+    let l : last_of end ≡ said p.last (p.place + length p.text) (last_of x.end) = ap last_of ee ∙ said-or x.end p.last (p.place + length p.text) in
     let i : conn_of (join q (heard_by x sees (x.all || p.all) end s)) b ≡ heard cfg p (conn_of (join q x) st.past) = cc in
     record { past = b; is = i ∙ ap (heard cfg p) st.is; waits = w out st.past.given st.waits; holds = h g st.past.kept st.holds }

@@ -1,9 +1,8 @@
 -- What is read off the fields of a connection, and a connection with nothing in it.
-use Rattle.std.specs.Prelude.{ℕ, Bool, false, not, ◌&&◌, ◌||◌, ◌==◌, nat_lt}
+use Rattle.std.specs.Prelude.{ℕ, Bool, None, false, not, ◌&&◌, ◌||◌, ◌==◌, nat_lt}
 use Rattle.hold.specs.World.{gone, is_asked}
 use Rattle.connection.specs.Phases.{phase_of}
 use Rattle.connection.specs.declared.phase.Phase.TheVariants.{Asked, Open, Gone}
-use Rattle.connection.specs.declared.phase.Last.TheVariants.{NotSaid}
 use Rattle.connection.specs.declared.stream.Stream.{Stream}
 use Rattle.connection.specs.declared.pairing.Pairing.{Pairing}
 use Rattle.connection.specs.declared.connection.Connection.{Connection}
@@ -40,7 +39,7 @@ blank = record {
     closed = false;
     sees = 0;
     all = false;
-    end = NotSaid;
+    end = None;
     ended = false;
   };
 }

@@ -45,7 +45,8 @@ impl Connection {
     }
 
     pub fn gone(mut self) -> Connection
-        ensures { (cfg : m.Settings) (mem : Rings) → ActsAs cfg self mem result mem (in_phase Gone) }
+        ensures acts { (cfg : m.Settings) (mem : Rings) → ActsAs cfg self mem result mem (in_phase Gone) }
+        ensures left { (cfg : m.Settings) (mem : Rings) (c : Conn) → LeftOver cfg self mem c → LeftOver cfg result mem c }
     {
         self.pairing = self.pairing.gone();
         self
@@ -148,9 +149,14 @@ impl Connection {
     pub fn due_now(&self, ring: &[u8; CAPACITY], settings: Settings) -> Option<Packet>
         ensures { (into bits : List ℕ) (c : Conn) → Stand1 (cfg_of settings) self.now (rings ring.now into bits) c → sent result ≡ due_by (cfg_of settings) c c.phase }
     {
-        match self.pairing.phase {
-            Phase::Asked => Some(Packet::bare(Kind::Ask, self.pairing.mine, 0)),
-            Phase::Half => Some(Packet::bare(Kind::Yes, self.pairing.mine, self.pairing.theirs)),
+        let Pairing {
+            mine,
+            theirs,
+            phase,
+        } = self.pairing;
+        match phase {
+            Phase::Asked => Some(Packet::bare(Kind::Ask, mine, 0)),
+            Phase::Half => Some(Packet::bare(Kind::Yes, mine, theirs)),
             Phase::Open => Some(self.due(ring, settings)),
             Phase::Gone => None,
         }
@@ -160,19 +166,18 @@ impl Connection {
     pub fn farewell(&self) -> Option<Packet>
         ensures { (cfg : m.Settings) (mem : Rings) (c : Conn) → Stand1 cfg self.now mem c → sent result ≡ bye_if (There c) }
     {
-        match self.pairing.phase {
-            Phase::Asked => None,
-            _ => Some(Packet::bare(Kind::Bye, self.pairing.mine, self.pairing.theirs)),
-        }
+        let Pairing {
+            mine,
+            theirs,
+            phase,
+        } = self.pairing;
+        (phase != Phase::Asked).then(|| Packet::bare(Kind::Bye, mine, theirs))
     }
 
     /// Whether it is open, and something was given, or the end said, that the other has not confirmed.
     pub fn owes(&self) -> bool
         ensures { (cfg : m.Settings) (mem : Rings) (c : Conn) → Stand1 cfg self.now mem c → result ≡ owes c }
     {
-        match self.pairing.phase {
-            Phase::Open => self.stream.owes(),
-            _ => false,
-        }
+        self.pairing.speaks() && self.stream.owes()
     }
 }

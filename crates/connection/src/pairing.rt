@@ -6,10 +6,11 @@ ghost use Rattle.connection.specs.Fields.{has_tag, has_peer, partner, opened_wit
 use crate::phase::Phase;
 
 /// Between whom a connection is, by the tags of its two ends, and how far it is.
-#[derive(Clone, Copy)]
+#[derive(Clone, Copy, PartialEq, Eq, Debug)]
 pub struct Pairing {
     pub mine: u64,
     /// The other's tag; 0 as long as this end only asked.
+    // Not an Option: it would be unwrapped to 0 for each packet that goes out and each test of a tag, and one that is gone keeps its tag too.
     pub theirs: u64,
     pub phase: Phase,
 }
@@ -19,58 +20,40 @@ impl Pairing {
     pub fn has_tag(self, tag: u64) -> bool
         ensures { result ≡ has_tag tag self }
     {
-        match self.phase {
-            Phase::Gone => false,
-            _ => self.mine == tag,
-        }
+        self.phase != Phase::Gone && self.mine == tag
     }
 
     /// Whether this end answers a tag of the other, and the connection is not gone.
     pub fn has_peer(self, tag: u64) -> bool
         ensures { result ≡ has_peer tag self }
     {
-        match self.phase {
-            Phase::Gone | Phase::Asked => false,
-            _ => self.theirs == tag,
-        }
+        !matches!(self.phase, Phase::Gone | Phase::Asked) && self.theirs == tag
     }
 
     /// Whether a packet from a tag of the other is this connection's.
     pub fn is_partner(self, tag: u64) -> bool
         ensures { result ≡ partner tag self }
     {
-        match self.phase {
-            Phase::Asked => false,
-            _ => self.theirs == tag,
-        }
+        self.phase != Phase::Asked && self.theirs == tag
     }
 
     pub fn is_gone(self) -> bool
         ensures { result ≡ gone (phase_of self.phase) }
     {
-        match self.phase {
-            Phase::Gone => true,
-            _ => false,
-        }
+        self.phase == Phase::Gone
     }
 
     pub fn is_asked(self) -> bool
         ensures { result ≡ is_asked (phase_of self.phase) }
     {
-        match self.phase {
-            Phase::Asked => true,
-            _ => false,
-        }
+        self.phase == Phase::Asked
     }
 
     /// Whether texts may be sent: it is open.
     pub fn speaks(self) -> bool
         ensures { result ≡ is_open (phase_of self.phase) }
     {
-        match self.phase {
-            Phase::Open => true,
-            _ => false,
-        }
+        self.phase == Phase::Open
     }
 
     pub fn open_with(self, theirs: u64) -> Pairing

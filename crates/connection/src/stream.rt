@@ -8,7 +8,6 @@ ghost use Rattle.lent.specs.Sending.{free, limit};
 ghost use Rattle.connection.specs.Stand.{Flows, Began, Moved, Rings, rings};
 ghost use Rattle.connection.specs.Fields.{stream_owes};
 
-use crate::phase::Last;
 use lent::bits::WORDS;
 use lent::receiver::Receiver;
 use lent::sender::Sender;
@@ -26,8 +25,8 @@ pub struct Stream {
     pub sees: u64,
     /// The other said that it has all, with the end.
     pub all: bool,
-    /// Where the other's bytes end.
-    pub end: Last,
+    /// Where the other's bytes end, once it said so.
+    pub end: Option<u64>,
     /// That end is reached.
     pub ended: bool,
 }
@@ -42,7 +41,7 @@ impl Stream {
             closed: false,
             sees: 0,
             all: false,
-            end: Last::NotSaid,
+            end: None,
             ended: false,
         }
     }
@@ -94,7 +93,7 @@ impl Stream {
         self.sees = self.sees.max(p.edge);
         self.sender = self.sender.confirm(p.upto);
         self.all |= p.all;
-        self.end = self.end.said(p.last, p.place + text.len() as u64);
+        self.end = self.end.or(p.last.then_some(p.place + text.len() as u64));
         self.receiver
             .keep_all(ring, bits, settings.room, p.place, text);
         self
@@ -105,7 +104,7 @@ impl Stream {
         ensures { (out into : List ℕ) → Flows (cfg_of settings) self (rings out into bits.old) result (rings out into bits.new) advance }
     {
         self.receiver = self.receiver.advance(bits, settings.room);
-        self.ended |= self.end.reached(self.receiver.got);
+        self.ended |= self.end == Some(self.receiver.got);
         self
     }
 

@@ -1,5 +1,6 @@
 -- A change in the table is a change of the model's end, and that is a step of the world.
-use Rattle.std.proofs.Common.{◌≡◌, ℕ, ◌<◌, true, false, not, ◌||◌, eqb, List, [], ◌∷◌, length, set, Some, None, sym, refl, ap, ◌∙◌, subst, arith}
+use Rattle.std.proofs.Common.{◌≡◌, ℕ, ◌<◌, true, false, not, ◌||◌, eqb, List, [], ◌∷◌, length, set, Some, None, Ok, Err, Result, sym, refl, ap, ◌∙◌, subst, arith}
+use Rattle.std.specs.Result.{result_ok}
 use Rattle.std.proofs.lemmas.List.{get_or-set_same, length-set}
 use Rattle.std.proofs.lemmas.Bool.{and_parts, cond-false, eqb-true, ne_eqb, or_from}
 use Rattle.hold.specs.Conn.{Asked, Conn, Gone, in_phase, new}
@@ -19,7 +20,8 @@ use Rattle.table.specs.declared.Table.{Table}
 use Rattle.table.specs.declared.Wanted.TheVariants.{Peer, Tag}
 use Rattle.table.proofs.Housing.{is_there_lem, lane_low, not_there, seek_finds}
 use Rattle.table.proofs.Lodging.{by_peer, by_tag_lem, changed-lane, grown, removed, same-gone, unchanged_all}
-use Rattle.endpoint.specs.Calls.{Numbered}
+use Rattle.endpoint.specs.Calls.{Joined, Numbered}
+use Rattle.endpoint.specs.declared.Refusal.{Refusal}
 use Rattle.endpoint.specs.Stands.{Sized, Stands, cfg, lent}
 use Rattle.endpoint.specs.Steps.{After, Steps}
 use Rattle.endpoint.specs.declared.Endpoint.{Endpoint}
@@ -98,6 +100,11 @@ module _ (x : Endpoint) (tag : ℕ) (n : Found → ℕ) where
   pub numbered_some : (l k : ℕ) → Some l ≡ finds (Tag tag) x.table → ((c : Conn) → Stand1 (cfg x) (at x.table l) (lent x l) c → n (There c) ≡ k) → Numbered x tag n k
   numbered_some l k h q e s = let f = finding x e s tag l h in ap n f.there ∙ q f.c f.stand
 
+-- a connection joined, by what is left of the refusal
+pub joined : (x y : Endpoint) (z : Connection) {u : Unit {0}} (r : Result (Unit {0}) Refusal) → Some u ≡ result_ok r → Joined x y z r → Joined x y z (Ok u)
+joined x y z (Ok u) e j = j
+joined x y z (Err f) e j = cc
+
 empty : (k : m.Settings) (mem : ℕ → Rings) (t : Table) → used t.lanes ≡ [] → Lodges k mem t []
 empty k mem t e = subst (λ ls. Housed (InLane k mem t.conns) (LeftIn k mem t.conns) ls []) (sym e) none
 
@@ -106,12 +113,12 @@ stands_new x el sz eu L = record { listens = el; sized = sz; table = empty (cfg 
 stands_new x el sz eu R = record { listens = el; sized = sz; table = empty (cfg x) (lent x) x.table eu }
 
 -- a connection is opened
-pub opens_new : (x y : Endpoint) (l : ℕ) (b : Beside l x y) (o : Who) (w : World) → Stands x (end o w) → (t : ℕ) (z : Connection) → Grown x.table y.table z (Some l) →
-    is_in t w.drawn ≡ false → (t ≡ 0 → ⊥) → (Sized x → Fresh (lent y l)) → ((mem : Rings) → Fresh mem → Stand1 (cfg x) z mem (new Asked t 0)) → (p : m.Packet) → p ≡ m.bare m.Ask t 0 → After y (p ∷ []) o w (step (cfg x) (Opens o t) w)
-opens_new x y l b o w s t z g d n0 fresh st p e =
+pub opens_new : (x y : Endpoint) (o : Who) (w : World) (t : ℕ) → Stands y (added (new Asked t 0) (end o w)) →
+    is_in t w.drawn ≡ false → (t ≡ 0 → ⊥) → (p : m.Packet) → p ≡ m.bare m.Ask t 0 → After y (p ∷ []) o w (step (cfg x) (Opens o t) w)
+opens_new x y o w t more d n0 p e =
     subst (λ (v : World). After y (p ∷ []) o w v) (sym (cond-false (is_in t w.drawn || eqb t 0) w (put o (added (new Asked t 0) (end o w)) (m.bare m.Ask t 0 ∷ []) (t ∷ []) w) (or_from (is_in t w.drawn) (eqb t 0) d (ne_eqb t 0 n0))))
     (subst (λ (r : m.Packet). After y (p ∷ []) o w (put o (added (new Asked t 0) (end o w)) (r ∷ []) (t ∷ []) w)) e
-    (after-put y (p ∷ []) o (added (new Asked t 0) (end o w)) (t ∷ []) w (one_more x (end o w) s l y b z (new Asked t 0) g fresh st)))
+    (after-put y (p ∷ []) o (added (new Asked t 0) (end o w)) (t ∷ []) w more))
 
 -- a call that changes the connection of a tag, and sends nothing
 module _ (x y : Endpoint) (l : ℕ) (b : Beside l x y) (tag : ℕ) (ev : Who → Ev) (f : Conn → Conn) (is : (o : Who) (w : World) → step (cfg x) (ev o) w ≡ put o (changed tag f (end o w)) [] [] w) where
@@ -121,11 +128,15 @@ module _ (x y : Endpoint) (l : ℕ) (b : Beside l x y) (tag : ℕ) (ev : Who →
     world = λ o w s. subst (λ (v : World). After y [] o w v) (sym (is o w)) (after-put y [] o (changed tag f (end o w)) [] w (changed_some x (end o w) s l y b tag z f ec en h acts));
   }
 
+-- a table with another connection in a lane
+abbrev pub with_conn : Table → ℕ → Connection → Table
+with_conn t l z = record { conns = set t.conns l z; lanes = t.lanes; sized = length-set t.conns l z ∙ t.sized }
+
 -- the connection of a tag is gone, and its lane is free
 module _ (x y : Endpoint) (l : ℕ) (b : Beside l x y) (em : lent y ≡ lent x) (tag : ℕ) (z : Connection) (ec : y.table.conns ≡ set x.table.conns l z) (en : used y.table.lanes ≡ without l (used x.table.lanes))
     (h : Some l ≡ finds (Tag tag) x.table) (acts : ActsAs (cfg x) (at x.table l) (lent x l) z (lent x l) (in_phase Gone)) where
   abbrev middle : Table
-  middle = record { conns = set x.table.conns l z; lanes = x.table.lanes; sized = length-set x.table.conns l z ∙ x.table.sized }
+  middle = with_conn x.table l z
 
   pub ended : (e : End) → Stands x e → Stands y (changed tag (in_phase Gone) e)
   ended e s =

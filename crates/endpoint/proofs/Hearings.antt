@@ -8,10 +8,9 @@ use Rattle.hold.specs.World.{Found, NotThere, There, Who, World, added, by_tag, 
 use Rattle.packet.specs.Sizes.{text_size}
 use Rattle.connection.specs.Fields.{partner}
 use Rattle.connection.specs.Phases.{phase_of}
-use Rattle.connection.specs.Stand.{ActsAs, Fresh, Rings, Stand1}
+use Rattle.connection.specs.Stand.{ActsAs}
 use Rattle.connection.specs.declared.connection.Connection.{Connection}
 use Rattle.lanes.specs.Used.{used}
-use Rattle.table.specs.Grows.{Grown}
 use Rattle.table.specs.Search.{at, finds, has_room, is_there}
 use Rattle.table.specs.declared.Wanted.TheVariants.{Peer, Tag}
 use Rattle.endpoint.specs.Hearing.{cause, hear_number, needs, too_far, zero_tag}
@@ -19,7 +18,7 @@ use Rattle.endpoint.specs.Stands.{Sized, Stands, cfg, lent}
 use Rattle.endpoint.specs.Steps.{After, Heard}
 use Rattle.endpoint.specs.declared.Endpoint.{Endpoint}
 use Rattle.endpoint.proofs.Memory.{Beside}
-use Rattle.endpoint.proofs.Ends.{Is, after-put, after_same, changed_some, finding, missing, no_peer, one_more, peer}
+use Rattle.endpoint.proofs.Ends.{Is, after-put, after_same, changed_some, finding, missing, no_peer, peer}
 
 -- a packet that changes the connection that it is for, if that is one with its sender, and no other
 module _ (x : Endpoint) (o : Who) (w : World) (s : Stands x (end o w)) (p : Packet) (on : Found → World) (f : Conn → Conn)
@@ -107,50 +106,19 @@ module _ (x : Endpoint) (o : Who) (w : World) (s : Stands x (end o w)) (p : Pack
     pub ask_zero : t ≡ 0 → After x [] o w (on_ask o p t (by_theirs p.from (end o w).conns) w)
     ask_zero z = ask_not (and_right (end o w).listens (not (is_in t w.drawn) && not (eqb t 0)) (and_right (not (is_in t w.drawn)) (not (eqb t 0)) (ap not (eq-eqb t 0 z))))
 
-    pub ask_new : (y : Endpoint) (l : ℕ) (b : Beside l x y) (z : Connection) → Grown x.table y.table z (Some l) → x.listens ≡ true → is_in t w.drawn ≡ false → (t ≡ 0 → ⊥) →
-        (Sized x → Fresh (lent y l)) → ((mem : Rings) → Fresh mem → Stand1 (cfg x) z mem (new Half t p.from)) → (q : Packet) → q ≡ bare Yes t p.from → After y (q ∷ []) o w (on_ask o p t (by_theirs p.from (end o w).conns) w)
-    ask_new y l b z g n d n0 fresh st q e =
+    pub ask_new : (y : Endpoint) → Stands y (added (new Half t p.from) (end o w)) → x.listens ≡ true → is_in t w.drawn ≡ false → (t ≡ 0 → ⊥) →
+        (q : Packet) → q ≡ bare Yes t p.from → After y (q ∷ []) o w (on_ask o p t (by_theirs p.from (end o w).conns) w)
+    ask_new y more n d n0 q e =
         let test : would_take ≡ true = and_from (end o w).listens (not (is_in t w.drawn) && not (eqb t 0)) (sym s.listens ∙ n) (and_from (not (is_in t w.drawn)) (not (eqb t 0)) (ap not d) (ap not (ne_eqb t 0 n0))) in
         subst (λ (m : Found). After y (q ∷ []) o w (on_ask o p t m w)) (sym (no_peer x (end o w) s p.from h))
         (subst (λ (v : World). After y (q ∷ []) o w v) (sym (cond-true would_take one w test))
         (subst (λ (r : Packet). After y (q ∷ []) o w (put o (added (new Half t p.from) (end o w)) (r ∷ []) (t ∷ []) w)) e
-        (after-put y (q ∷ []) o (added (new Half t p.from) (end o w)) (t ∷ []) w (one_more x (end o w) s l y b z (new Half t p.from) g fresh st))))
+        (after-put y (q ∷ []) o (added (new Half t p.from) (end o w)) (t ∷ []) w more)))
 
--- the first cause, by what was found out in this order
-module _ (x : Endpoint) (p : Packet) (t : ℕ) (needed : Bool) (n : needed ≡ needs x p) (short : length p.text ≤ text_size) where
-  long : ltb text_size (length p.text) ≡ false
-  long = le-ltb text_size (length p.text) short
-
-  zero : (b : Bool) → b ≡ (zero_tag p || (needed && eqb t 0)) → (zero_tag p || (needs x p && eqb t 0)) ≡ b
-  zero b e = sym (e ∙ ap (λ k. zero_tag p || (k && eqb t 0)) n)
-
-  pub cause_zero : true ≡ (zero_tag p || (needed && eqb t 0)) → 3 ≡ hear_number x p t
-  cause_zero e = sym (ap (λ b. cause b (zero_tag p || (needs x p && eqb t 0)) (too_far p) (needs x p) (has_room x.table) (is_there t x.table)) long ∙ ap (λ b. cause false b (too_far p) (needs x p) (has_room x.table) (is_there t x.table)) (zero true e))
-
-  module _ (z : false ≡ (zero_tag p || (needed && eqb t 0))) where
-    so_far : hear_number x p t ≡ cause false false (too_far p) (needs x p) (has_room x.table) (is_there t x.table)
-    so_far = ap (λ b. cause b (zero_tag p || (needs x p && eqb t 0)) (too_far p) (needs x p) (has_room x.table) (is_there t x.table)) long ∙ ap (λ b. cause false b (too_far p) (needs x p) (has_room x.table) (is_there t x.table)) (zero false z)
-
-    pub cause_far : true ≡ too_far p → 4 ≡ hear_number x p t
-    cause_far f = sym (so_far ∙ ap (λ b. cause false false b (needs x p) (has_room x.table) (is_there t x.table)) (sym f))
-
-    module _ (f : false ≡ too_far p) where
-      near : hear_number x p t ≡ cause false false false (needs x p) (has_room x.table) (is_there t x.table)
-      near = so_far ∙ ap (λ b. cause false false b (needs x p) (has_room x.table) (is_there t x.table)) (sym f)
-
-      pub cause-free : needed ≡ false → hear_number x p t ≡ 0
-      cause-free e = near ∙ ap (λ b. cause false false false b (has_room x.table) (is_there t x.table)) (sym n ∙ e)
-
-      module _ (e : needed ≡ true) where
-        wanted : hear_number x p t ≡ cause false false false true (has_room x.table) (is_there t x.table)
-        wanted = near ∙ ap (λ b. cause false false false b (has_room x.table) (is_there t x.table)) (sym n ∙ e)
-
-        pub cause-full : false ≡ has_room x.table → 7 ≡ hear_number x p t
-        cause-full r = sym (wanted ∙ ap (λ b. cause false false false true b (is_there t x.table)) (sym r))
-
-        -- the tag is there, or is not
-        pub cause_there : true ≡ has_room x.table → (b : Bool) → b ≡ is_there t x.table → hear_number x p t ≡ cond b 8 0
-        cause_there r b h = wanted ∙ ap (λ k. cause false false false true k (is_there t x.table)) (sym r) ∙ ap (λ k. cond k 8 0) (sym h)
+-- the number, by what was found out
+pub number-is : (x : Endpoint) (p : Packet) (t : ℕ) (zero far needed n room there : Bool) → length p.text ≤ text_size → zero ≡ (zero_tag p || (needed && eqb t 0)) → far ≡ too_far p →
+    needed ≡ needs x p → needed ≡ n → room ≡ has_room x.table → there ≡ is_there t x.table → hear_number x p t ≡ cause false zero far n room there
+number-is x p t zero far needed n room there short z f e k r h = let l : ltb text_size (length p.text) ≡ false = le-ltb text_size (length p.text) short in cc
 
 -- where there is no cause, a text fits, and there is room where it is needed
 pub record Fine (long far needed room : Bool) : Type 0 where

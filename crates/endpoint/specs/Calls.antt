@@ -1,12 +1,13 @@
 -- What the calls of a user do and answer.
-use Rattle.std.specs.Prelude.{◌≡◌, ℕ, min, true, false, cond, not, ◌&&◌, List, [], ◌∷◌, length, take, Some, Ok, Err, Option, Result, ◌==◌, nat_le, nat_lt}
+use Rattle.std.specs.Prelude.{◌≡◌, ℕ, ◌<◌, min, true, false, cond, not, ◌&&◌, List, [], ◌∷◌, length, take, Some, None, Ok, Err, Option, Result, ◌==◌, nat_le, nat_lt}
 use mathlib.Core.List.{Memᴰ}
 use Rattle.hold.specs.Conn.{Conn}
-use Rattle.hold.specs.World.{Breaks, Closes, End, Forgets, Found, Gives, NotThere, Opens, Takes, There, Who, World, by_tag, end, gone, is_in, step}
+use Rattle.hold.specs.World.{Breaks, Closes, End, Forgets, Found, Gives, NotThere, Opens, Takes, There, Who, World, added, by_tag, end, gone, is_in, step}
 use Rattle.packet.specs.Packets.{packet, sent}
 use Rattle.packet.specs.declared.packet.Packet.{Packet}
 use Rattle.lent.specs.Sending.{free, most}
-use Rattle.connection.specs.Stand.{Drained, Took}
+use Rattle.connection.specs.Stand.{Drained, Fresh, Rings, Stand1, Took}
+use Rattle.connection.specs.declared.connection.Connection.{Connection}
 use Rattle.lanes.specs.Used.{used}
 use Rattle.table.specs.Grows.{less}
 use Rattle.table.specs.Search.{at, finds, has_room, is_there, or_else}
@@ -16,10 +17,21 @@ use Rattle.endpoint.specs.Stands.{Stands, cfg, lent}
 use Rattle.endpoint.specs.Steps.{After, Steps}
 use Rattle.endpoint.specs.declared.Endpoint.{Endpoint}
 use Rattle.endpoint.specs.declared.Refusal.{Refusal}
+use Rattle.endpoint.specs.declared.Refusal.TheVariants as refusal
 
 -- refused with this number, and nothing changes
 abbrev pub Refused : Endpoint → Endpoint → Refusal → ℕ → Type 0
 Refused x y f n = (number f ≡ n) × (y ≡ x)
+
+-- a lane that was found, or the refusal where none was
+abbrev pub InLaneOf : Option ℕ → Result ℕ Refusal → Type 0
+InLaneOf found (Ok l) = (Some l ≡ found) × (l < 16)
+InLaneOf found (Err f) = (None ≡ found) × (f ≡ refusal.NotThere)
+
+-- one connection more, in memory made ready for it; or there is no room, and nothing changes
+abbrev pub Joined : Endpoint → Endpoint → Connection → Result (Unit {0}) Refusal → Type 0
+Joined x y z (Ok u) = (y.settings ≡ x.settings) × ((e : End) (c : Conn) → Stands x e → ((mem : Rings) → Fresh mem → Stand1 (cfg x) z mem c) → Stands y (added c e))
+Joined x y z (Err f) = (f ≡ refusal.Full) × (has_room x.table ≡ false) × (y ≡ x)
 
 -- the number with which open is refused; 0 where it is not
 abbrev pub open_number : Endpoint → ℕ → ℕ

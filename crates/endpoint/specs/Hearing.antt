@@ -1,5 +1,5 @@
 -- Packets heard.
-use Rattle.std.specs.Prelude.{◌≡◌, ℕ, ◌+◌, Bool, true, cond, not, ◌&&◌, ◌||◌, length, is_some, Some, None, Ok, Err, Option, Result, ◌==◌, nat_lt}
+use Rattle.std.specs.Prelude.{◌≡◌, ℕ, ◌+◌, Bool, true, cond, not, ◌&&◌, ◌||◌, length, is_some, None, Ok, Err, Option, Result, ◌==◌, nat_lt}
 use Rattle.hold.specs.Code.{is_ask}
 use Rattle.hold.specs.Packet as m
 use Rattle.packet.specs.Packets.{sent}
@@ -38,9 +38,9 @@ hear_number x p t = cause (nat_lt text_size (length p.text)) (zero_tag p || (nee
 abbrev pub Asked : Endpoint → Endpoint → m.Packet → ℕ → Option Packet → Type 0
 Asked x y p t r = (None ≡ finds (Peer p.from) x.table → x.listens ≡ true → has_room x.table ≡ true) → Heard x y (sent r) p m.Ask t
 
-abbrev pub Refuses : Endpoint → m.Packet → ℕ → Option Refusal → Type 0
-Refuses x p t None = hear_number x p t ≡ 0
-Refuses x p t (Some f) = number f ≡ hear_number x p t
+abbrev pub Refuses : Endpoint → m.Packet → ℕ → Result (Unit {0}) Refusal → Type 0
+Refuses x p t (Ok u) = hear_number x p t ≡ 0
+Refuses x p t (Err f) = number f ≡ hear_number x p t
 
 abbrev pub HeardAs : Endpoint → Endpoint → m.Packet → ℕ → Result (Option Packet) Refusal → Type 0
 HeardAs x y p t (Ok r) = (hear_number x p t ≡ 0) × Heard x y (sent r) p p.kind t

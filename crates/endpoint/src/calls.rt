@@ -3,10 +3,11 @@ ghost use Rattle.hold.specs.Code.{living};
 ghost use Rattle.hold.specs.Promise.{tags};
 ghost use Rattle.hold.specs.World.{End, Listens, Who, end, is_in, start};
 ghost use Rattle.lent.specs.Sending.{most};
-ghost use Rattle.table.specs.Search.{has_room, is_there};
+ghost use Rattle.table.specs.Search.{finds, has_room, is_there};
+ghost use Rattle.table.specs.declared.Wanted.TheVariants.{Tag};
 ghost use Rattle.packet.specs.Agreed.{cfg_of};
 ghost use Rattle.endpoint.specs.AsCode.{Agrees, CodeTaking};
-ghost use Rattle.endpoint.specs.Calls.{Broken, Finished, Forgotten, Gave, Opened, Taken};
+ghost use Rattle.endpoint.specs.Calls.{Broken, Finished, Forgotten, Gave, InLaneOf, Joined, Opened, Taken, lane_of};
 ghost use Rattle.endpoint.specs.Stands.{Stands};
 ghost use Rattle.endpoint.specs.Steps.{Steps};
 
@@ -24,7 +25,7 @@ use table::{Table, Wanted};
 fn is_beyond(given: u64, bytes: &[u8]) -> bool
     ensures { result ≡ (nat_le most given && nat_lt 0 (length bytes.now)) }
 {
-    given >= MOST && bytes.len() > 0
+    given >= MOST && !bytes.is_empty()
 }
 
 impl<'m> Endpoint<'m> {
@@ -54,6 +55,40 @@ impl<'m> Endpoint<'m> {
         Endpoint::new(settings, self.memory, self.bits)
     }
 
+    /// The table of connections, to look at.
+    pub fn table(&self) -> &Table
+        ensures { result.now ≡ self.now.table }
+    {
+        &self.table
+    }
+
+    /// The lane of the connection that has a tag.
+    fn living(&self, tag: u64) -> Result<usize, Refusal>
+        ensures { InLaneOf (finds (Tag tag) self.now.table) result }
+    {
+        self.table.find(Wanted::Tag(tag)).ok_or(Refusal::NotThere)
+    }
+
+    /// The same, or else the lane of one that is gone and had it.
+    fn kept(&self, tag: u64) -> Result<usize, Refusal>
+        ensures { InLaneOf (lane_of tag self.now) result }
+    {
+        let living = self.table.find(Wanted::Tag(tag));
+        living
+            .or(self.table.find(Wanted::Gone(tag)))
+            .ok_or(Refusal::NotThere)
+    }
+
+    /// A connection more, over memory that is made ready for it.
+    pub(crate) fn add(&mut self, c: Connection) -> Result<(), Refusal>
+        ensures { Joined self.old self.new c result }
+    {
+        let lane = self.table.add(c).ok_or(Refusal::Full)?;
+        let rings = &*self.memory;
+        ready(&rings[2 * lane], &rings[2 * lane + 1], &mut self.bits[lane]);
+        Ok(())
+    }
+
     /// Whether asks open connections from now on.
     pub fn listen(&mut self, on: bool)
         ensures { Steps self.old self.new [] (λ o. Listens o on) }
@@ -74,11 +109,7 @@ impl<'m> Endpoint<'m> {
         if self.table.has(tag) {
             return Err(Refusal::TagThere);
         }
-        let Some(lane) = self.table.add(Connection::new(Phase::Asked, tag, 0)) else {
-            return Err(Refusal::Full);
-        };
-        let rings = &*self.memory;
-        ready(&rings[2 * lane], &rings[2 * lane + 1], &mut self.bits[lane]);
+        self.add(Connection::new(Phase::Asked, tag, 0))?;
         Ok(Packet::bare(Kind::Ask, tag, 0))
     }
 
@@ -86,9 +117,7 @@ impl<'m> Endpoint<'m> {
     pub fn close(&mut self, tag: u64) -> Result<(), Refusal>
         ensures { Finished self.old self.new tag result }
     {
-        let Some(lane) = self.table.find(Wanted::Tag(tag)) else {
-            return Err(Refusal::NotThere);
-        };
+        let lane = self.living(tag)?;
         let c = self.table.conns[lane];
         if c.stream.closed {
             return Err(Refusal::Closed);
@@ -101,9 +130,7 @@ impl<'m> Endpoint<'m> {
     pub fn give(&mut self, tag: u64, bytes: &[u8]) -> Result<usize, Refusal>
         ensures { Gave self.old self.new tag bytes.now result }
     {
-        let Some(lane) = self.table.find(Wanted::Tag(tag)) else {
-            return Err(Refusal::NotThere);
-        };
+        let lane = self.living(tag)?;
         let c = self.table.conns[lane];
         if c.stream.closed {
             return Err(Refusal::Closed);
@@ -120,9 +147,7 @@ impl<'m> Endpoint<'m> {
     pub fn break_off(&mut self, tag: u64) -> Result<Option<Packet>, Refusal>
         ensures { Broken self.old self.new tag result }
     {
-        let Some(lane) = self.table.find(Wanted::Tag(tag)) else {
-            return Err(Refusal::NotThere);
-        };
+        let lane = self.living(tag)?;
         let c = self.table.conns[lane];
         let bye = c.farewell();
         self.table.conns[lane] = c.gone();
@@ -134,36 +159,22 @@ impl<'m> Endpoint<'m> {
     pub fn take(&mut self, tag: u64, out: &mut [u8]) -> Result<usize, Refusal>
         ensures { Taken self.old self.new tag out.old out.new result }
     {
-        if let Some(lane) = self.table.find(Wanted::Tag(tag)) {
-            let rings = &*self.memory;
-            let (taken, n) = self.table.conns[lane].take(&rings[2 * lane + 1], out);
-            self.table.conns[lane] = taken;
-            return Ok(n);
-        }
-        if let Some(lane) = self.table.find(Wanted::Gone(tag)) {
-            let rings = &*self.memory;
-            let (drained, n) = self.table.conns[lane].take(&rings[2 * lane + 1], out);
-            self.table.conns[lane] = drained;
-            return Ok(n);
-        }
-        Err(Refusal::NotThere)
+        let lane = self.kept(tag)?;
+        let rings = &*self.memory;
+        let (drained, n) = self.table.conns[lane].take(&rings[2 * lane + 1], out);
+        self.table.conns[lane] = drained;
+        Ok(n)
     }
 
     /// Forgets a connection, whether it lives or is gone; nothing goes out.
     pub fn forget(&mut self, tag: u64) -> Result<(), Refusal>
         ensures { Forgotten self.old self.new tag result }
     {
-        if let Some(lane) = self.table.find(Wanted::Tag(tag)) {
-            let living = self.table.conns[lane];
-            self.table.conns[lane] = living.gone();
-            self.table.remove(lane);
-            return Ok(());
-        }
-        if let Some(lane) = self.table.find(Wanted::Gone(tag)) {
-            self.table.remove(lane);
-            return Ok(());
-        }
-        Err(Refusal::NotThere)
+        let lane = self.kept(tag)?;
+        let left = self.table.conns[lane];
+        self.table.conns[lane] = left.gone();
+        self.table.remove(lane);
+        Ok(())
     }
 
     /// Whether one more connection can be opened. Where it can not, sixteen live.

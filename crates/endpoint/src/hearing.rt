@@ -7,7 +7,6 @@ ghost use Rattle.endpoint.specs.Steps.{Heard};
 
 use crate::{Endpoint, Refusal};
 use connection::connection::Connection;
-use connection::memory::ready;
 use connection::phase::Phase;
 use lent::sender::MOST;
 use packet::packet::{Head, Kind, Packet, SIZE};
@@ -20,13 +19,7 @@ const LAST_EDGE: u64 = MOST + 65536;
 fn lacks_tag(p: Head, needed: bool, tag: u64) -> bool
     ensures { (ts : List ℕ) → result ≡ (zero_tag (packet_of p ts) || (needed && tag == 0)) }
 {
-    if needed && tag == 0 {
-        return true;
-    }
-    match p.kind {
-        Kind::Ask => p.from == 0,
-        _ => p.from == 0 || p.to == 0,
-    }
+    (needed && tag == 0) || p.from == 0 || (!matches!(p.kind, Kind::Ask) && p.to == 0)
 }
 
 fn is_too_far(p: Head) -> bool
@@ -40,10 +33,9 @@ impl<'m> Endpoint<'m> {
     fn needs_connection(&self, p: Head) -> bool
         ensures { (ts : List ℕ) → result ≡ needs self.now (packet_of p ts) }
     {
-        match p.kind {
-            Kind::Ask => self.listens && self.table.find(Wanted::Peer(p.from)).is_none(),
-            _ => false,
-        }
+        matches!(p.kind, Kind::Ask)
+            && self.listens
+            && self.table.find(Wanted::Peer(p.from)).is_none()
     }
 
     /// A bye whose tags are those of a connection ends it.
@@ -106,53 +98,44 @@ impl<'m> Endpoint<'m> {
             let q = self.table.conns[lane].pairing;
             return Some(Packet::bare(Kind::Yes, q.mine, q.theirs));
         }
-        if !self.listens {
+        if !self.listens || tag == 0 {
             return None;
         }
-        if tag == 0 {
-            return None;
-        }
-        let Some(lane) = self.table.add(Connection::new(Phase::Half, tag, p.from)) else {
-            return None;
-        };
-        let rings = &*self.memory;
-        ready(&rings[2 * lane], &rings[2 * lane + 1], &mut self.bits[lane]);
+        self.add(Connection::new(Phase::Half, tag, p.from)).ok()?;
         Some(Packet::bare(Kind::Yes, tag, p.from))
     }
 
-    /// Why a packet is refused, if it is; `tag` is drawn for the connection that it may open.
-    fn refusal(&self, p: Head, text: &[u8], tag: u64) -> Option<Refusal>
+    /// Whether a packet is heard, or why it is refused; `tag` is drawn for the connection that it may open.
+    fn check(&self, p: Head, text: &[u8], tag: u64) -> Result<(), Refusal>
         ensures { Refuses self.now (packet_of p text.now) tag result }
     {
         if text.len() > SIZE {
-            return Some(Refusal::TooLong);
+            return Err(Refusal::TooLong);
         }
         let needed = self.needs_connection(p);
         if lacks_tag(p, needed, tag) {
-            return Some(Refusal::ZeroTag);
+            return Err(Refusal::ZeroTag);
         }
         if is_too_far(p) {
-            return Some(Refusal::TooFar);
+            return Err(Refusal::TooFar);
         }
         if !needed {
-            return None;
+            return Ok(());
         }
         if !self.table.has_room() {
-            return Some(Refusal::Full);
+            return Err(Refusal::Full);
         }
         if self.table.has(tag) {
-            return Some(Refusal::TagThere);
+            return Err(Refusal::TagThere);
         }
-        None
+        Ok(())
     }
 
     /// A packet is heard, with a tag drawn for the connection that it may open; and what goes out at once.
     pub fn hear(&mut self, p: Head, text: &[u8], tag: u64) -> Result<Option<Packet>, Refusal>
         ensures { HeardAs self.old self.new (packet_of p text.now) tag result }
     {
-        if let Some(refusal) = self.refusal(p, text, tag) {
-            return Err(refusal);
-        }
+        self.check(p, text, tag)?;
         match p.kind {
             Kind::Ask => Ok(self.hear_ask(p, tag)),
             Kind::Yes => Ok(self.hear_yes(p)),

@@ -3,7 +3,6 @@
 
 mod calls;
 mod hearing;
-mod inside;
 mod numbers;
 mod sending;
 
@@ -33,7 +32,7 @@ pub struct Endpoint<'m> {
 }
 
 /// Why a call or a packet is refused. What is refused changes nothing, and nothing goes out.
-#[derive(Clone, Copy)]
+#[derive(Clone, Copy, PartialEq, Eq, Debug)]
 pub enum Refusal {
     /// More bytes than one text may have.
     TooLong,

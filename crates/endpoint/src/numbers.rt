@@ -3,12 +3,12 @@ ghost use Rattle.endpoint.specs.Refusals.{number};
 
 use crate::Refusal;
 
-impl Refusal {
-    /// The number under which the protocol knows it.
-    pub fn number(self) -> u8
-        ensures { result ≡ number self }
-    {
-        match self {
+/// The number under which the protocol knows a refusal.
+impl From<Refusal> for u8 {
+    ghost from_gives = { λ f n. n ≡ number f };
+
+    fn from(refusal: Refusal) -> u8 {
+        match refusal {
             Refusal::TooLong => 1,
             Refusal::ZeroTag => 3,
             Refusal::TooFar => 4,

@@ -12,9 +12,7 @@ impl<'m> Endpoint<'m> {
     pub fn due(&self, tag: u64) -> Option<Packet>
         ensures { Steps self.now self.now (sent result) (λ o. Due o tag) }
     {
-        let Some(lane) = self.table.find(Wanted::Tag(tag)) else {
-            return None;
-        };
+        let lane = self.table.find(Wanted::Tag(tag))?;
         let rings = &*self.memory;
         self.table.conns[lane].due_now(&rings[2 * lane], self.settings)
     }
@@ -23,9 +21,7 @@ impl<'m> Endpoint<'m> {
     pub fn answer(&self, tag: u64) -> Option<Packet>
         ensures { Answers self.now tag result }
     {
-        let Some(lane) = self.table.find(Wanted::Tag(tag)) else {
-            return None;
-        };
+        let lane = self.table.find(Wanted::Tag(tag))?;
         let c = self.table.conns[lane];
         if !c.pairing.speaks() {
             return None;
@@ -38,17 +34,9 @@ impl<'m> Endpoint<'m> {
     pub fn send(&self, tag: u64, place: u64, most: u64) -> Option<Packet>
         ensures { Says self.now tag place most result }
     {
-        let Some(lane) = self.table.find(Wanted::Tag(tag)) else {
-            return None;
-        };
+        let lane = self.table.find(Wanted::Tag(tag))?;
         let c = self.table.conns[lane];
-        if place < c.stream.sender.upto {
-            return None;
-        }
-        if most > self.settings.size {
-            return None;
-        }
-        if !c.pairing.speaks() {
+        if place < c.stream.sender.upto || most > self.settings.size || !c.pairing.speaks() {
             return None;
         }
         let rings = &*self.memory;

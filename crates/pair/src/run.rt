@@ -25,7 +25,7 @@ fn side_of(side: Named) -> Side {
 /// The number of a refusal; 1 for what names no packet, or a tag that was drawn before.
 fn number(fault: Fault) -> u8 {
     match fault {
-        Fault::Refused(refusal) => refusal.number(),
+        Fault::Refused(refusal) => refusal.into(),
         Fault::Unfit | Fault::Memory => 1,
     }
 }

@@ -3,13 +3,10 @@ ghost use Rattle.hold.specs.Conn.{Conn};
 ghost use Rattle.hold.specs.Packet.{Settings};
 ghost use Rattle.hold.specs.World.{There};
 ghost use Rattle.connection.specs.Stand.{Rings, Stand1};
-ghost use Rattle.connection.specs.Phases.{last_of};
 ghost use Rattle.ledger.specs.Books.{view_of};
-ghost use Rattle.ledger.specs.Tells.{is_said};
 ghost use Rattle.party.specs.Looks.{SeenIn};
 
 use connection::connection::Connection;
-use connection::phase::Last;
 use ledger::record::View;
 use table::{Table, Wanted};
 
@@ -24,20 +21,11 @@ fn view(c: &Connection) -> View
         given: c.stream.sender.given,
         closed: c.stream.closed,
         arrived: c.stream.receiver.got,
-        heard: is_said(c.stream.end),
+        heard: c.stream.end.is_some(),
         told: c.stream.ended,
         upto: c.stream.sender.upto,
         all: c.stream.all,
         owes: c.owes(),
-    }
-}
-
-fn is_said(end: Last) -> bool
-    ensures { result ≡ is_said (last_of end) }
-{
-    match end {
-        Last::NotSaid => false,
-        Last::At(_) => true,
     }
 }
 

@@ -1,30 +1,26 @@
-use Rattle.std.proofs.Common.{[], refl, ◌∙◌}
+use Rattle.std.proofs.Common.{[], refl, ap, ◌∙◌, ⊎_elim}
 use Rattle.hold.specs.Conn.{Gone, in_phase}
 use Rattle.hold.specs.World.{changed, end}
+use Rattle.lanes.specs.Used.{used}
+use Rattle.table.specs.Grows.{less}
 use Rattle.endpoint.specs.Stands.{cfg, lent}
 use Rattle.endpoint.proofs.Memory.{beside}
 use Rattle.endpoint.proofs.Ends.{after-put, changed_none, ended}
-use Rattle.endpoint.proofs.Leaving.{lane-gone, lane-living, let_go, there_gone, there_living}
+use Rattle.endpoint.proofs.Leaving.{either, let_go, there}
 use Rattle.endpoint.proofs.Endpoint.forget.Goals as goal
 
-pub returns-in-Some : goal.returns-in-Some
-returns-in-Some c = let x = c.args.self.now in let h = c.in-Some.ensures.is in (
-  there_living x c.args.tag c.in-Some.lane h,
-  c.remove.ensures.lanes ∙ lane-living x c.args.tag c.in-Some.lane h,
-  record {
-    settings = refl;
-    world = λ o w s. after-put _ [] o (changed c.args.tag (in_phase Gone) (end o w)) [] w
-        (ended x _ c.in-Some.lane (beside c.in-Some.lane x _ refl refl refl refl) refl c.args.tag c.gone.result c.remove.ensures.conns c.remove.ensures.lanes h (c.gone.ensures (cfg x) (lent x c.in-Some.lane)) (end o w) s);
-  },
-)
-
-pub returns-in-Some-find : goal.returns-in-Some-find
-returns-in-Some-find c = let x = c.args.self.now in let no = c.in_default.ensures.is in let h = c.in-Some-find.ensures.is in let l = c.in-Some-find.lane in (
-  there_gone x c.args.tag l no h,
-  c.remove-in-Some-find.ensures.lanes ∙ lane-gone x c.args.tag l no h,
-  record {
-    settings = refl;
-    world = λ o w s. after-put _ [] o (changed c.args.tag (in_phase Gone) (end o w)) [] w
-        (let_go x c.args.tag l no h _ (beside l x _ refl refl refl refl) refl c.remove-in-Some-find.ensures.conns c.remove-in-Some-find.ensures.lanes _ (changed_none x (end o w) s c.args.tag (in_phase Gone) no));
-  },
-)
+pub returns : goal.returns
+returns c =
+    let x = c.args.self.now in
+    let l = c.in_ok-lane.lane in
+    let b = beside l x _ refl refl refl refl in (
+      there x c.args.tag l c.in_ok-lane.ensures.0,
+      c.remove.ensures.lanes ∙ ap (λ o. less o (used x.table.lanes)) c.in_ok-lane.ensures.0,
+      record {
+        settings = refl;
+        world = λ o w s. after-put _ [] o (changed c.args.tag (in_phase Gone) (end o w)) [] w (⊎_elim
+            (λ h. ended x _ l b refl c.args.tag c.gone.result c.remove.ensures.conns c.remove.ensures.lanes h (c.gone.ensures.acts (cfg x) (lent x l)) (end o w) s)
+            (λ h. let_go x c.args.tag l h.0 h.1 _ b refl c.gone.result (c.gone.ensures.left (cfg x) (lent x l)) c.remove.ensures.conns c.remove.ensures.lanes _ (changed_none x (end o w) s c.args.tag (in_phase Gone) h.0))
+            (either x c.args.tag l c.in_ok-lane.ensures.0));
+      },
+    )

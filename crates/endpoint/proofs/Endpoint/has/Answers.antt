@@ -3,5 +3,5 @@ use Rattle.table.proofs.Lodging.{there}
 use Rattle.endpoint.specs.Stands.{cfg, lent}
 use Rattle.endpoint.proofs.Endpoint.has.Goals as goal
 
-pub returns : goal.returns
-returns c = let x = c.args.self.now in record { is = c.has.ensures; had = λ f e s. there (cfg x) (lent x) x.table s.table c.args.tag (sym c.has.ensures ∙ f) }
+pub returns-clause-had : goal.returns-clause-had
+returns-clause-had c = let x = c.args.self.now in λ f e s. there (cfg x) (lent x) x.table s.table c.args.tag (sym c.has.ensures ∙ f)

@@ -3,5 +3,5 @@ use Rattle.table.proofs.Lodging.{all_full}
 use Rattle.endpoint.specs.Stands.{cfg, lent}
 use Rattle.endpoint.proofs.Endpoint.has_room.Goals as goal
 
-pub returns : goal.returns
-returns c = let x = c.args.self.now in record { is = c.has_room.ensures; full = λ f e s. all_full (cfg x) (lent x) x.table s.table (sym c.has_room.ensures ∙ f) }
+pub returns-clause-full : goal.returns-clause-full
+returns-clause-full c = let x = c.args.self.now in λ f e s. all_full (cfg x) (lent x) x.table s.table (sym c.has_room.ensures ∙ f)

@@ -2,5 +2,5 @@ use Rattle.std.proofs.Common.{refl, rules}
 use Rattle.endpoint.proofs.Ends.{stands_new}
 use Rattle.endpoint.proofs.Endpoint.new.Goals as goal
 
-pub returns : goal.returns
-returns c = record { stands = stands_new _ refl (record { memory = search rules; bits = search rules }) c.new.ensures; settings = refl }
+pub returns-clause-stands : goal.returns-clause-stands
+returns-clause-stands c = stands_new _ refl (record { memory = search rules; bits = search rules }) c.new.ensures
