@@ -33,7 +33,7 @@ fn run(start: u32, bytes: &[u8]) -> u32
 }
 
 /// The register after some bytes more: bytes that stand apart are checked one after the other.
-// By eight bytes a turn: 5.5 instructions a byte, where one fold over all bytes takes 6.5.
+// By eight bytes a turn: 5.5 instructions a byte, where one loop over all bytes takes 6.5 to 7.
 pub fn extend(start: u32, bytes: &[u8]) -> u32
     ensures { result ≡ register_after start bytes.now }
 {

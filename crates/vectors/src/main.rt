@@ -4,8 +4,7 @@
 
 use crc32c::{crc32c, extend};
 use packet::packet::{Head, Kind, Packet, PacketRef};
-use std::array;
-use std::fmt;
+use std::{array, fmt};
 use wire::fault::WriteError;
 use wire::format::{FRAME, read, write};
 
