@@ -6,6 +6,8 @@ use Rattle.hold.specs.World.{gone}
 use Rattle.packet.specs.Sizes.{capacity}
 use Rattle.lent.specs.Bits.{AllAre}
 use Rattle.lent.specs.Rings.{Waits, Holds}
+use Rattle.lent.specs.declared.inbox.Inbox.{Inbox}
+use Rattle.lent.specs.declared.inbox.Memory.{Memory}
 use Rattle.connection.specs.Phases.{phase_of, last_of}
 use Rattle.connection.specs.declared.stream.Stream.{Stream}
 use Rattle.connection.specs.declared.pairing.Pairing.{Pairing}
@@ -45,6 +47,13 @@ pub record Rings : Type 0 where
 
 abbrev pub rings : List ℕ → List ℕ → List ℕ → Rings
 rings out into bits = record { out = out; into = into; bits = bits }
+
+-- with a ring of bytes to be sent, and an inbox
+abbrev pub beside : List ℕ → Inbox → Rings
+beside out inbox = rings out inbox.ring inbox.bits
+
+abbrev pub rings_of : Memory → Rings
+rings_of memory = beside memory.out memory.inbox
 
 -- memory for a new connection: whatever the rings hold, no bit is up
 pub record Fresh (mem : Rings) : Type 0 where

@@ -4,16 +4,17 @@ ghost use Rattle.hold.specs.Conn.{Conn, new, in_phase, open_with, gives, closes,
 ghost use Rattle.hold.specs.Packet as m;
 ghost use Rattle.hold.specs.World.{due_by, bye_if, There};
 ghost use Rattle.packet.specs.Agreed.{cfg_of};
-ghost use Rattle.packet.specs.Packets.{packet, packet_of, sent};
+ghost use Rattle.packet.specs.Packets.{packet, packet_in, sent};
 ghost use Rattle.packet.specs.Sizes.{capacity, text_size};
-ghost use Rattle.lent.specs.Sending.{free, limit};
+ghost use Rattle.lent.specs.Sending.{free};
 ghost use Rattle.connection.specs.Phases.{phase_of};
-ghost use Rattle.connection.specs.Stand.{ActsAs, Stand1, LeftOver, Took, Drained, Fresh, Rings, rings, text_at};
+ghost use Rattle.connection.specs.Stand.{ActsAs, Stand1, LeftOver, Took, Drained, Fresh, Rings, beside, rings, text_at};
 
 use crate::pairing::Pairing;
 use crate::phase::Phase;
 use crate::stream::Stream;
-use lent::bits::WORDS;
+use lent::inbox::Inbox;
+use lent::incoming::Incoming;
 use packet::packet::{Head, Kind, Packet, SIZE};
 use packet::settings::{CAPACITY, Settings};
 
@@ -70,31 +71,22 @@ impl Connection {
     }
 
     /// Moves bytes that the user got and has not taken into `out`, and says how many. Of a connection that is gone too.
-    pub fn take(mut self, ring: &[u8; CAPACITY], out: &mut [u8]) -> (Connection, usize)
+    pub fn take(mut self, inbox: &Inbox, out: &mut [u8]) -> (Connection, usize)
         ensures acts { (cfg : m.Settings) (mem : Rings) → ActsAs cfg self mem result.0 mem (takes (length out.old)) }
-        ensures took { (cfg : m.Settings) (given bits : List ℕ) (c : Conn) → Stand1 cfg self (rings given ring.now bits) c → Took c out.old out.new result.1 }
-        ensures drained { (cfg : m.Settings) (given bits : List ℕ) (c : Conn) → LeftOver cfg self (rings given ring.now bits) c → Drained cfg self result.0 (rings given ring.now bits) c out.old out.new result.1 }
+        ensures took { (cfg : m.Settings) (given bits : List ℕ) (c : Conn) → Stand1 cfg self (rings given inbox.now.ring bits) c → Took c out.old out.new result.1 }
+        ensures drained { (cfg : m.Settings) (given bits : List ℕ) (c : Conn) → LeftOver cfg self (rings given inbox.now.ring bits) c → Drained cfg self result.0 (rings given inbox.now.ring bits) c out.old out.new result.1 }
     {
-        let (stream, n) = self.stream.take(ring, out);
+        let (stream, n) = self.stream.take(inbox, out);
         self.stream = stream;
         (self, n)
     }
 
-    /// A text from the other's tag, which opens the connection if it was half open. The caller refuses one that reaches beyond the
-    /// limit of all places first, as for `Stream::hear`.
-    pub fn hear(
-        self,
-        ring: &mut [u8; CAPACITY],
-        bits: &mut [u64; WORDS],
-        settings: Settings,
-        p: Head,
-        text: &[u8],
-    ) -> Connection
-        requires { p.place + length text.now ≤ limit }
-        ensures { (out : List ℕ) → ActsAs (cfg_of settings) self (rings out ring.old bits.old) result (rings out ring.new bits.new) (λ d. hears (cfg_of settings) (packet_of p text.now) (open_with p.from d)) }
+    /// A text from the other's tag, which opens the connection if it was half open.
+    pub fn hear(self, inbox: &mut Inbox, settings: Settings, incoming: &Incoming<'_>) -> Connection
+        ensures { (out : List ℕ) → ActsAs (cfg_of settings) self (beside out inbox.old) result (beside out inbox.new) (λ d. hears (cfg_of settings) (packet_in incoming.now.packet) (open_with incoming.now.packet.head.from d)) }
     {
-        let mut opened = self.open_with(p.from);
-        opened.stream = opened.stream.hear(ring, bits, settings, p, text);
+        let mut opened = self.open_with(incoming.packet.head.from);
+        opened.stream = opened.stream.hear(inbox, settings, incoming);
         opened
     }
 

@@ -1,12 +1,10 @@
-ghost use Rattle.connection.specs.Stand.{Fresh, rings};
+ghost use Rattle.connection.specs.Stand.{Fresh, rings_of};
 
-use lent::bits::{WORDS, clear};
-use packet::settings::CAPACITY;
+use lent::inbox::Memory;
 
-/// Readies memory for a new connection. Its rings, for the bytes to be sent and for those that came, may hold anything; the
-/// bits of what is kept are put down.
-pub fn ready(out: &[u8; CAPACITY], into: &[u8; CAPACITY], bits: &mut [u64; WORDS])
-    ensures { Fresh (rings out.now into.now bits.new) }
+/// Readies memory for a new connection. Its rings may hold anything; the bits of what is kept are put down.
+pub fn ready(memory: &mut Memory)
+    ensures { Fresh (rings_of memory.new) }
 {
-    clear(bits);
+    memory.inbox.clear();
 }

@@ -2,16 +2,17 @@ ghost use Rattle.std.specs.Prelude.{◌≡◌, ℕ, ◌+◌, ◌≤◌, min, not
 ghost use Rattle.hold.specs.Conn.{gives, closes, takes, heard, advance, hears};
 ghost use Rattle.hold.specs.Packet as m;
 ghost use Rattle.packet.specs.Agreed.{cfg_of};
-ghost use Rattle.packet.specs.Packets.{packet_of};
+ghost use Rattle.packet.specs.Packets.{packet_in};
 ghost use Rattle.lent.specs.Rings.{Holds};
-ghost use Rattle.lent.specs.Sending.{free, limit};
-ghost use Rattle.connection.specs.Stand.{Flows, Began, Moved, Rings, rings};
+ghost use Rattle.lent.specs.Sending.{free};
+ghost use Rattle.connection.specs.Stand.{Flows, Began, Moved, Rings, beside, rings};
 ghost use Rattle.connection.specs.Fields.{stream_owes};
 
-use lent::bits::WORDS;
+use lent::inbox::Inbox;
+use lent::incoming::Incoming;
 use lent::receiver::Receiver;
 use lent::sender::Sender;
-use packet::packet::Head;
+use packet::packet::PacketRef;
 use packet::settings::{CAPACITY, Settings};
 
 /// The bytes of a connection, both ways: their numbers. The bytes themselves stand in memory that is passed in.
@@ -67,62 +68,47 @@ impl Stream {
     }
 
     /// Moves bytes that the user got and has not taken into `out`, and says how many.
-    pub fn take(mut self, ring: &[u8; CAPACITY], out: &mut [u8]) -> (Stream, usize)
+    pub fn take(mut self, inbox: &Inbox, out: &mut [u8]) -> (Stream, usize)
         ensures acts { (cfg : m.Settings) (mem : Rings) → Flows cfg self mem result.0 mem (takes (length out.old)) }
         ensures kept { (window : ℕ) (ring bits g : List ℕ) (ks : List m.Piece) → Holds window self.receiver ring bits g ks → Holds window result.0.receiver ring bits g ks }
         ensures ended { result.0.ended ≡ self.ended }
-        ensures moved { Moved self ring.now out.old out.new result.1 }
+        ensures moved { Moved self inbox.now.ring out.old out.new result.1 }
     {
-        let (receiver, n) = self.receiver.take(ring, out);
+        let (receiver, n) = self.receiver.take(inbox, out);
         self.receiver = receiver;
         (self, n)
     }
 
     /// What a text says, and its bytes, before any is handed on.
-    fn heard(
-        mut self,
-        ring: &mut [u8; CAPACITY],
-        bits: &mut [u64; WORDS],
-        settings: Settings,
-        p: Head,
-        text: &[u8],
-    ) -> Stream
-        requires { p.place + length text.now ≤ limit }
-        ensures { (out : List ℕ) → Flows (cfg_of settings) self (rings out ring.old bits.old) result (rings out ring.new bits.new) (heard (cfg_of settings) (packet_of p text.now)) }
+    fn heard(mut self, inbox: &mut Inbox, settings: Settings, incoming: &Incoming<'_>) -> Stream
+        ensures { (out : List ℕ) → Flows (cfg_of settings) self (beside out inbox.old) result (beside out inbox.new) (heard (cfg_of settings) (packet_in incoming.now.packet)) }
     {
-        self.sees = self.sees.max(p.edge);
-        self.sender = self.sender.confirm(p.upto);
-        self.all |= p.all;
-        self.end = self.end.or(p.last.then_some(p.place + text.len() as u64));
-        self.receiver
-            .keep_all(ring, bits, settings.room, p.place, text);
+        let PacketRef { head, text } = incoming.packet;
+        self.sees = self.sees.max(head.edge);
+        self.sender = self.sender.confirm(head.upto);
+        self.all |= head.all;
+        self.end = self
+            .end
+            .or(head.last.then_some(head.place + text.len() as u64));
+        self.receiver.keep_all(inbox, settings.room, incoming);
         self
     }
 
     /// Bytes whose turn has come are handed on, and the user is told the end where it is reached.
-    fn advance(mut self, bits: &mut [u64; WORDS], settings: Settings) -> Stream
-        ensures { (out into : List ℕ) → Flows (cfg_of settings) self (rings out into bits.old) result (rings out into bits.new) advance }
+    fn advance(mut self, inbox: &mut Inbox, settings: Settings) -> Stream
+        ensures { (out : List ℕ) → Flows (cfg_of settings) self (beside out inbox.old) result (beside out inbox.new) advance }
     {
-        self.receiver = self.receiver.advance(bits, settings.room);
+        self.receiver = self.receiver.advance(inbox, settings.room);
         self.ended |= self.end == Some(self.receiver.got);
         self
     }
 
-    /// A text from the other. Its bytes must not reach beyond the limit of all places, 2^62 and a text's bytes: the caller refuses
-    /// one that does, as no stream has so many bytes.
-    pub fn hear(
-        self,
-        ring: &mut [u8; CAPACITY],
-        bits: &mut [u64; WORDS],
-        settings: Settings,
-        p: Head,
-        text: &[u8],
-    ) -> Stream
-        requires { p.place + length text.now ≤ limit }
-        ensures { (out : List ℕ) → Flows (cfg_of settings) self (rings out ring.old bits.old) result (rings out ring.new bits.new) (hears (cfg_of settings) (packet_of p text.now)) }
+    /// A text from the other.
+    pub fn hear(self, inbox: &mut Inbox, settings: Settings, incoming: &Incoming<'_>) -> Stream
+        ensures { (out : List ℕ) → Flows (cfg_of settings) self (beside out inbox.old) result (beside out inbox.new) (hears (cfg_of settings) (packet_in incoming.now.packet)) }
     {
-        self.heard(ring, bits, settings, p, text)
-            .advance(bits, settings)
+        self.heard(inbox, settings, incoming)
+            .advance(inbox, settings)
     }
 
     /// Whether a text that ends at a place is the last.

@@ -11,11 +11,11 @@ use Rattle.connection.specs.declared.connection.Connection.{Connection}
 use Rattle.lanes.specs.Used.{is_in, used, without}
 use Rattle.lanes.proofs.Orders.{used_separate}
 use Rattle.table.specs.Lodges.{Lodges}
-use Rattle.table.specs.Search.{at, finds, is_gone, is_there, meets, or_else}
+use Rattle.table.specs.Search.{at, finds, is_gone, is_there, lane_of, meets, or_else}
 use Rattle.table.specs.declared.Wanted.TheVariants.{Gone, Tag}
 use Rattle.table.proofs.Housing.{lane_low, seek_finds}
 use Rattle.table.proofs.Lodging.{drained, removed}
-use Rattle.endpoint.specs.Calls.{TookLeft, lane_of}
+use Rattle.endpoint.specs.Calls.{TookLeft}
 use Rattle.endpoint.specs.Stands.{Stands, cfg, lent}
 use Rattle.endpoint.specs.Steps.{Steps}
 use Rattle.endpoint.specs.declared.Endpoint.{Endpoint}
@@ -23,7 +23,7 @@ use Rattle.endpoint.proofs.Memory.{Beside}
 use Rattle.endpoint.proofs.Ends.{after-put, changed_none, stands_by, with_conn}
 
 -- a lane that was found has the connection with the tag, or one that is gone and had it
-module _ (x : Endpoint) (tag l : ℕ) (h : Some l ≡ lane_of tag x) where
+module _ (x : Endpoint) (tag l : ℕ) (h : Some l ≡ lane_of tag x.table) where
   pub either : (Some l ≡ finds (Tag tag) x.table) ⊎ ((None ≡ finds (Tag tag) x.table) × (Some l ≡ finds (Gone tag) x.table))
   either = cases (finds (Tag tag) x.table) (finds (Gone tag) x.table) h
     where

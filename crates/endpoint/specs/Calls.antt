@@ -10,8 +10,8 @@ use Rattle.connection.specs.Stand.{Drained, Fresh, Rings, Stand1, Took}
 use Rattle.connection.specs.declared.connection.Connection.{Connection}
 use Rattle.lanes.specs.Used.{used}
 use Rattle.table.specs.Grows.{less}
-use Rattle.table.specs.Search.{at, finds, has_room, is_there, or_else}
-use Rattle.table.specs.declared.Wanted.TheVariants.{Gone, Tag}
+use Rattle.table.specs.Search.{at, finds, has_room, is_there, lane_of}
+use Rattle.table.specs.declared.Wanted.TheVariants.{Gone}
 use Rattle.endpoint.specs.Refusals.{number}
 use Rattle.endpoint.specs.Stands.{Stands, cfg, lent}
 use Rattle.endpoint.specs.Steps.{After, Steps}
@@ -104,10 +104,6 @@ abbrev pub Taken : Endpoint → Endpoint → ℕ → List ℕ → List ℕ → R
 Taken x y tag before out (Ok n) = TookSome x y tag before out n
 Taken x y tag before out (Err f) = (number f ≡ 5) × (is_there tag x.table ≡ false) × (y ≡ x) × (out ≡ before)
 
--- the lane of a tag: of the connection that has it, else of one that had it
-abbrev pub lane_of : ℕ → Endpoint → Option ℕ
-lane_of tag x = or_else (finds (Tag tag) x.table) (finds (Gone tag) x.table)
-
 abbrev pub Forgotten : Endpoint → Endpoint → ℕ → Result (Unit {0}) Refusal → Type 0
-Forgotten x y tag (Ok u) = (is_there tag x.table ≡ true) × (used y.table.lanes ≡ less (lane_of tag x) (used x.table.lanes)) × Steps x y [] (λ o. Forgets o tag)
+Forgotten x y tag (Ok u) = (is_there tag x.table ≡ true) × (used y.table.lanes ≡ less (lane_of tag x.table) (used x.table.lanes)) × Steps x y [] (λ o. Forgets o tag)
 Forgotten x y tag (Err f) = (number f ≡ 5) × (is_there tag x.table ≡ false) × (y ≡ x)

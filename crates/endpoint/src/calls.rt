@@ -3,22 +3,23 @@ ghost use Rattle.hold.specs.Code.{living};
 ghost use Rattle.hold.specs.Promise.{tags};
 ghost use Rattle.hold.specs.World.{End, Listens, Who, end, is_in, start};
 ghost use Rattle.lent.specs.Sending.{most};
-ghost use Rattle.table.specs.Search.{finds, has_room, is_there};
+ghost use Rattle.table.specs.Search.{finds, has_room, is_there, lane_of};
 ghost use Rattle.table.specs.declared.Wanted.TheVariants.{Tag};
 ghost use Rattle.packet.specs.Agreed.{cfg_of};
 ghost use Rattle.endpoint.specs.AsCode.{Agrees, CodeTaking};
-ghost use Rattle.endpoint.specs.Calls.{Broken, Finished, Forgotten, Gave, InLaneOf, Joined, Opened, Taken, lane_of};
+ghost use Rattle.endpoint.specs.Calls.{Broken, Finished, Forgotten, Gave, InLaneOf, Joined, Opened, Taken};
 ghost use Rattle.endpoint.specs.Stands.{Stands};
 ghost use Rattle.endpoint.specs.Steps.{Steps};
 
-use crate::{Endpoint, LANES, RINGS, Refusal};
+use crate::{Endpoint, Refusal};
 use connection::connection::Connection;
 use connection::memory::ready;
 use connection::phase::Phase;
-use lent::bits::WORDS;
+use lanes::LANES;
+use lent::inbox::Memory;
 use lent::sender::MOST;
 use packet::packet::{Kind, Packet};
-use packet::settings::{CAPACITY, Settings};
+use packet::settings::Settings;
 use table::{Table, Wanted};
 
 /// Whether there are bytes for a stream that has all that one can have.
@@ -30,18 +31,13 @@ fn is_beyond(given: u64, bytes: &[u8]) -> bool
 
 impl<'m> Endpoint<'m> {
     /// An end with no connection, which takes no asks, over memory that may hold anything.
-    pub fn new(
-        settings: Settings,
-        memory: &'m mut [[u8; CAPACITY]; RINGS],
-        bits: &'m mut [[u64; WORDS]; LANES],
-    ) -> Endpoint<'m>
+    pub fn new(settings: Settings, memory: &'m mut [Memory; LANES]) -> Endpoint<'m>
         ensures stands { (o : Who) → Stands result (end o start) }
         ensures settings { result.settings ≡ settings }
     {
         Endpoint {
             table: Table::new(),
             memory,
-            bits,
             listens: false,
             settings,
         }
@@ -52,7 +48,7 @@ impl<'m> Endpoint<'m> {
         ensures stands { (o : Who) → Stands result (end o start) }
         ensures settings { result.settings ≡ settings }
     {
-        Endpoint::new(settings, self.memory, self.bits)
+        Endpoint::new(settings, self.memory)
     }
 
     /// The table of connections, to look at.
@@ -71,12 +67,9 @@ impl<'m> Endpoint<'m> {
 
     /// The same, or else the lane of one that is gone and had it.
     fn kept(&self, tag: u64) -> Result<usize, Refusal>
-        ensures { InLaneOf (lane_of tag self.now) result }
+        ensures { InLaneOf (lane_of tag self.now.table) result }
     {
-        let living = self.table.find(Wanted::Tag(tag));
-        living
-            .or(self.table.find(Wanted::Gone(tag)))
-            .ok_or(Refusal::NotThere)
+        self.table.lane_of(tag).ok_or(Refusal::NotThere)
     }
 
     /// A connection more, over memory that is made ready for it.
@@ -84,8 +77,7 @@ impl<'m> Endpoint<'m> {
         ensures { Joined self.old self.new c result }
     {
         let lane = self.table.add(c).ok_or(Refusal::Full)?;
-        let rings = &*self.memory;
-        ready(&rings[2 * lane], &rings[2 * lane + 1], &mut self.bits[lane]);
+        ready(&mut self.memory[lane]);
         Ok(())
     }
 
@@ -138,7 +130,7 @@ impl<'m> Endpoint<'m> {
         if is_beyond(c.stream.sender.given, bytes) {
             return Err(Refusal::AllGiven);
         }
-        let (given, n) = c.give(&mut self.memory[2 * lane], bytes);
+        let (given, n) = c.give(&mut self.memory[lane].out, bytes);
         self.table.conns[lane] = given;
         Ok(n)
     }
@@ -160,8 +152,7 @@ impl<'m> Endpoint<'m> {
         ensures { Taken self.old self.new tag out.old out.new result }
     {
         let lane = self.kept(tag)?;
-        let rings = &*self.memory;
-        let (drained, n) = self.table.conns[lane].take(&rings[2 * lane + 1], out);
+        let (drained, n) = self.table.conns[lane].take(&self.memory[lane].inbox, out);
         self.table.conns[lane] = drained;
         Ok(n)
     }

@@ -1,25 +1,26 @@
 ghost use Rattle.std.specs.Prelude.{◌≡◌, ℕ, ◌+◌, ◌≤◌, ◌&&◌, ◌||◌, List, [], length, ◌==◌};
 ghost use Rattle.hold.specs.Packet.{Bye, Text, Yes};
-ghost use Rattle.packet.specs.Packets.{packet_of, sent};
-ghost use Rattle.lent.specs.Sending.{limit};
+ghost use Rattle.packet.specs.Packets.{packet_in, packet_of, sent};
 ghost use Rattle.endpoint.specs.Hearing.{Asked, HeardAs, Refuses, needs, too_far, zero_tag};
 ghost use Rattle.endpoint.specs.Steps.{Heard};
 
 use crate::{Endpoint, Refusal};
 use connection::connection::Connection;
 use connection::phase::Phase;
+use lent::incoming::Incoming;
 use lent::sender::MOST;
-use packet::packet::{Head, Kind, Packet, SIZE};
+use packet::settings::CAPACITY;
+use packet::packet::{Head, Kind, Packet, PacketRef, SIZE};
 use table::Wanted;
 
 /// The largest edge of a stream: all its bytes, and the largest window.
-const LAST_EDGE: u64 = MOST + 65536;
+const LAST_EDGE: u64 = MOST + CAPACITY as u64;
 
 /// Whether a tag is 0 that must not be: the sender's, the receiver's unless it is asked, and the drawn one where it is needed.
 fn lacks_tag(p: Head, needed: bool, tag: u64) -> bool
     ensures { (ts : List ℕ) → result ≡ (zero_tag (packet_of p ts) || (needed && tag == 0)) }
 {
-    (needed && tag == 0) || p.from == 0 || (!matches!(p.kind, Kind::Ask) && p.to == 0)
+    (needed && tag == 0) || p.from == 0 || (p.kind != Kind::Ask && p.to == 0)
 }
 
 fn is_too_far(p: Head) -> bool
@@ -33,7 +34,7 @@ impl<'m> Endpoint<'m> {
     fn needs_connection(&self, p: Head) -> bool
         ensures { (ts : List ℕ) → result ≡ needs self.now (packet_of p ts) }
     {
-        matches!(p.kind, Kind::Ask)
+        p.kind == Kind::Ask
             && self.listens
             && self.table.find(Wanted::Peer(p.from)).is_none()
     }
@@ -70,22 +71,17 @@ impl<'m> Endpoint<'m> {
     }
 
     /// A text is its connection's; a bye goes back where there is none.
-    fn hear_text(&mut self, p: Head, text: &[u8]) -> Option<Packet>
-        requires { p.place + length text.now ≤ limit }
-        ensures { (t : ℕ) → Heard self.old self.new (sent result) (packet_of p text.now) Text t }
+    fn hear_text(&mut self, incoming: &Incoming<'_>) -> Option<Packet>
+        ensures { (t : ℕ) → Heard self.old self.new (sent result) (packet_in incoming.now.packet) Text t }
     {
+        let p = incoming.packet.head;
         let Some(lane) = self.table.find(Wanted::Tag(p.to)) else {
             return Some(Packet::bare(Kind::Bye, p.to, p.from));
         };
         let c = self.table.conns[lane];
         if c.pairing.is_partner(p.from) {
-            self.table.conns[lane] = c.hear(
-                &mut self.memory[2 * lane + 1],
-                &mut self.bits[lane],
-                self.settings,
-                p,
-                text,
-            );
+            self.table.conns[lane] =
+                c.hear(&mut self.memory[lane].inbox, self.settings, incoming);
         }
         None
     }
@@ -106,17 +102,17 @@ impl<'m> Endpoint<'m> {
     }
 
     /// Whether a packet is heard, or why it is refused; `tag` is drawn for the connection that it may open.
-    fn check(&self, p: Head, text: &[u8], tag: u64) -> Result<(), Refusal>
-        ensures { Refuses self.now (packet_of p text.now) tag result }
+    fn check(&self, p: PacketRef<'_>, tag: u64) -> Result<(), Refusal>
+        ensures { Refuses self.now (packet_in p.entry) tag result }
     {
-        if text.len() > SIZE {
+        if p.text.len() > SIZE {
             return Err(Refusal::TooLong);
         }
-        let needed = self.needs_connection(p);
-        if lacks_tag(p, needed, tag) {
+        let needed = self.needs_connection(p.head);
+        if lacks_tag(p.head, needed, tag) {
             return Err(Refusal::ZeroTag);
         }
-        if is_too_far(p) {
+        if is_too_far(p.head) {
             return Err(Refusal::TooFar);
         }
         if !needed {
@@ -132,16 +128,16 @@ impl<'m> Endpoint<'m> {
     }
 
     /// A packet is heard, with a tag drawn for the connection that it may open; and what goes out at once.
-    pub fn hear(&mut self, p: Head, text: &[u8], tag: u64) -> Result<Option<Packet>, Refusal>
-        ensures { HeardAs self.old self.new (packet_of p text.now) tag result }
+    pub fn hear(&mut self, p: PacketRef<'_>, tag: u64) -> Result<Option<Packet>, Refusal>
+        ensures { HeardAs self.old self.new (packet_in p.entry) tag result }
     {
-        self.check(p, text, tag)?;
-        match p.kind {
-            Kind::Ask => Ok(self.hear_ask(p, tag)),
-            Kind::Yes => Ok(self.hear_yes(p)),
-            Kind::Text => Ok(self.hear_text(p, text)),
+        self.check(p, tag)?;
+        match p.head.kind {
+            Kind::Ask => Ok(self.hear_ask(p.head, tag)),
+            Kind::Yes => Ok(self.hear_yes(p.head)),
+            Kind::Text => Ok(self.hear_text(&Incoming { packet: p })),
             Kind::Bye => {
-                self.hear_bye(p);
+                self.hear_bye(p.head);
                 Ok(None)
             }
         }

@@ -6,26 +6,20 @@ mod hearing;
 mod numbers;
 mod sending;
 
+use lanes::LANES;
 use lent::bits::WORDS;
+use lent::inbox::Memory;
 use packet::settings::{CAPACITY, Settings};
 use table::Table;
 
-/// Connections of an end.
-pub const LANES: usize = 16;
-
-/// Rings of bytes of an end.
-pub const RINGS: usize = 2 * LANES;
-
-/// Bytes of memory that an end is lent: it allocates none.
-pub const MEMORY: usize = RINGS * CAPACITY + LANES * WORDS * 8;
+/// Bytes of memory that an end is lent, two rings and the bits of one for each connection: it allocates none.
+pub const MEMORY: usize = LANES * (2 * CAPACITY + WORDS * 8);
 
 #[derive(Drop)]
 pub struct Endpoint<'m> {
     table: Table,
-    /// Of a lane, ring 2 * lane has the bytes to be sent, and ring 2 * lane + 1 those that came.
-    memory: &'m mut [[u8; CAPACITY]; RINGS],
-    /// By lane, which bytes that came are kept before their turn.
-    bits: &'m mut [[u64; WORDS]; LANES],
+    /// By lane.
+    memory: &'m mut [Memory; LANES],
     /// Whether asks open connections.
     listens: bool,
     settings: Settings,

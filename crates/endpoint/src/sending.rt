@@ -13,8 +13,8 @@ impl<'m> Endpoint<'m> {
         ensures { Steps self.now self.now (sent result) (λ o. Due o tag) }
     {
         let lane = self.table.find(Wanted::Tag(tag))?;
-        let rings = &*self.memory;
-        self.table.conns[lane].due_now(&rings[2 * lane], self.settings)
+        let memory = &*self.memory;
+        self.table.conns[lane].due_now(&memory[lane].out, self.settings)
     }
 
     /// The answer to a text that brought bytes or the end; none of a connection that is not open.
@@ -26,8 +26,8 @@ impl<'m> Endpoint<'m> {
         if !c.pairing.speaks() {
             return None;
         }
-        let rings = &*self.memory;
-        Some(c.answer(&rings[2 * lane], self.settings))
+        let memory = &*self.memory;
+        Some(c.answer(&memory[lane].out, self.settings))
     }
 
     /// A text that goes out because it may: from a place on, at most so many bytes. None where the place is confirmed already, or a text may not have so many.
@@ -39,7 +39,7 @@ impl<'m> Endpoint<'m> {
         if place < c.stream.sender.upto || most > self.settings.size || !c.pairing.speaks() {
             return None;
         }
-        let rings = &*self.memory;
-        Some(c.says(&rings[2 * lane], self.settings, place, most))
+        let memory = &*self.memory;
+        Some(c.says(&memory[lane].out, self.settings, place, most))
     }
 }

@@ -30,6 +30,7 @@ impl Inbox {
     /// Puts all bits down; the ring stays as it is.
     pub fn clear(&mut self)
         ensures ring { self.new.ring ≡ self.old.ring }
+        ensures sized { length self.new.ring ≡ capacity }
         ensures bits { AllAre 0 capacity false self.new.bits }
     {
         self.bits.fill(0);

@@ -10,6 +10,7 @@ use crate::bits::{mark, run};
 use crate::inbox::Inbox;
 use crate::incoming::Incoming;
 use crate::ring::get;
+use packet::packet::PacketRef;
 use packet::settings::CAPACITY;
 
 /// The numbers of the bytes that came: those got and not taken, and those kept before their turn, stand in one ring, with bits
@@ -55,9 +56,10 @@ impl Receiver {
     /// Keeps what it may of a text that came: no byte whose turn has passed, for which there is no room, or whose place is kept
     /// already.
     pub fn keep_all(self, inbox: &mut Inbox, window: u64, incoming: &Incoming)
-        ensures { (g : List ℕ) (ks : List Piece) → Holds window self inbox.old.ring inbox.old.bits g ks → Holds window self inbox.new.ring inbox.new.bits g (keep (length g) (self.taken + window) incoming.now.head.place incoming.now.text.now ks) }
+        ensures { (g : List ℕ) (ks : List Piece) → Holds window self inbox.old.ring inbox.old.bits g ks → Holds window self inbox.new.ring inbox.new.bits g (keep (length g) (self.taken + window) incoming.now.packet.head.place incoming.now.packet.text.now ks) }
     {
-        let (place, text) = (incoming.head.place, incoming.text);
+        let PacketRef { head, text } = incoming.packet;
+        let place = head.place;
         let edge = self
             .taken
             .saturating_add(window)

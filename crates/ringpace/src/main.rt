@@ -7,7 +7,7 @@ use lent::inbox::Memory;
 use lent::incoming::Incoming;
 use lent::receiver::Receiver;
 use lent::sender::{MOST, Sender};
-use packet::packet::{Kind, Packet};
+use packet::packet::{Kind, Packet, PacketRef};
 
 const TEXT: usize = 1024;
 
@@ -35,9 +35,12 @@ fn carry(texts: u64) -> u64
         }
         let n = given.read(&memory.out, place, TEXT as u64, &mut packet);
         head.place = place;
+        let text_ref = &packet[..n];
         let incoming = Incoming {
-            head,
-            text: &packet[..n],
+            packet: PacketRef {
+                head,
+                text: text_ref,
+            },
         };
         receiver.keep_all(&mut memory.inbox, WINDOW, &incoming);
         let (taken, count) = receiver

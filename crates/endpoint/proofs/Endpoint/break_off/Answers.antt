@@ -16,6 +16,6 @@ returns c = let x = c.args.self.now in let h = c.in_ok-lane.ensures.0 in (
     settings = refl;
     world = λ o w s. let f = finding x (end o w) s c.args.tag c.in_ok-lane.lane h in
         after_out _ _ o _ (bye_if (by_tag c.args.tag (end o w).conns)) w (c.farewell-bye.ensures (cfg x) (lent x c.in_ok-lane.lane) f.c f.stand ∙ sym (ap bye_if f.there))
-        (ended x _ c.in_ok-lane.lane (beside c.in_ok-lane.lane x _ refl refl refl refl) refl c.args.tag c.gone.result c.remove.ensures.conns c.remove.ensures.lanes h (c.gone.ensures.acts (cfg x) (lent x c.in_ok-lane.lane)) (end o w) s);
+        (ended x _ c.in_ok-lane.lane (beside c.in_ok-lane.lane x _ refl refl refl) refl c.args.tag c.gone.result c.remove.ensures.conns c.remove.ensures.lanes h (c.gone.ensures.acts (cfg x) (lent x c.in_ok-lane.lane)) (end o w) s);
   },
 )

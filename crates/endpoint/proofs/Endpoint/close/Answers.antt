@@ -17,5 +17,5 @@ returns-then-c c =
 pub returns : goal.returns
 returns c = let x = c.args.self.now in (
   numbered_some x c.args.tag close_number c.in_ok-lane.lane 0 c.in_ok-lane.ensures.0 (λ d s. ap (λ (k : Conn). close_number (There k)) (sym s.is) ∙ ap (λ b. cond b 6 0) c.if-c.false),
-  steps_some x _ c.in_ok-lane.lane (beside c.in_ok-lane.lane x _ refl refl refl refl) c.args.tag (λ o. Closes o c.args.tag) closes (λ o w. refl) c.close.result refl refl c.in_ok-lane.ensures.0 (λ _. c.close.ensures (cfg x) (lent x c.in_ok-lane.lane)),
+  steps_some x _ c.in_ok-lane.lane (beside c.in_ok-lane.lane x _ refl refl refl) c.args.tag (λ o. Closes o c.args.tag) closes (λ o w. refl) c.close.result refl refl c.in_ok-lane.ensures.0 (λ _. c.close.ensures (cfg x) (lent x c.in_ok-lane.lane)),
 )

@@ -13,7 +13,7 @@ pub returns : goal.returns
 returns c =
     let x = c.args.self.now in
     let l = c.in_ok-lane.lane in
-    let b = beside l x _ refl refl refl refl in (
+    let b = beside l x _ refl refl refl in (
       there x c.args.tag l c.in_ok-lane.ensures.0,
       c.remove.ensures.lanes ∙ ap (λ o. less o (used x.table.lanes)) c.in_ok-lane.ensures.0,
       record {

@@ -16,7 +16,7 @@ returns-in_default c = λ ts t. let p = packet_of c.args.p ts in record {
 pub returns-then-is_partner : goal.returns-then-is_partner
 returns-then-is_partner c = λ ts t. let p = packet_of c.args.p ts in let x = c.args.self.now in record {
   settings = refl;
-  world = λ o w s d. for_it x o w s p (λ (m : Found). on_bye o p m w) (in_phase Gone) (λ e. refl) c.in-Some.lane c.in-Some.ensures.is _ (beside c.in-Some.lane x _ refl refl refl refl) c.gone.result refl refl
+  world = λ o w s d. for_it x o w s p (λ (m : Found). on_bye o p m w) (in_phase Gone) (λ e. refl) c.in-Some.lane c.in-Some.ensures.is _ (beside c.in-Some.lane x _ refl refl refl) c.gone.result refl refl
       c.if-is_partner.ensures (λ _. c.gone.ensures.acts (cfg x) (lent x c.in-Some.lane));
 }
 

@@ -15,7 +15,7 @@ returns-in_default c = λ ts t. let p = packet_of c.args.p ts in record {
 pub returns-then-is_asked : goal.returns-then-is_asked
 returns-then-is_asked c = λ ts t. let x = c.args.self.now in record {
   settings = refl;
-  world = λ o w s d. yes_asked x o w s (packet_of c.args.p ts) c.in-Some.lane c.in-Some.ensures.is _ (beside c.in-Some.lane x _ refl refl refl refl) c.open_with.result refl refl
+  world = λ o w s d. yes_asked x o w s (packet_of c.args.p ts) c.in-Some.lane c.in-Some.ensures.is _ (beside c.in-Some.lane x _ refl refl refl) c.open_with.result refl refl
       c.if-is_asked.ensures (λ _. c.open_with.ensures (cfg x) (lent x c.in-Some.lane));
 }
 

@@ -5,5 +5,5 @@ use Rattle.endpoint.proofs.Endpoint.listen.Goals as goal
 pub returns : goal.returns
 returns c = record {
   settings = refl;
-  world = λ o w s. after-put _ [] o _ [] w (record { listens = refl; sized = record { memory = s.sized.memory; bits = s.sized.bits }; table = s.table });
+  world = λ o w s. after-put _ [] o _ [] w (record { listens = refl; sized = s.sized; table = s.table });
 }

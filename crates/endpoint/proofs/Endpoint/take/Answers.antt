@@ -12,7 +12,7 @@ returns c =
     let x = c.args.self.now in
     let l = c.in_ok-lane.lane in
     let r = c.take-n in
-    let b = beside l x _ refl refl refl refl in
+    let b = beside l x _ refl refl refl in
     ⊎_elim
     (λ h. record {
       steps = steps_some x _ l b c.args.tag (λ o. Takes o c.args.tag (length c.args.out.now)) (takes (length c.args.out.now)) (λ o w. refl) r.result.0 refl refl h (λ _. r.ensures.acts (cfg x) (lent x l));
