@@ -74,9 +74,8 @@ impl<'m> Endpoint<'m> {
         ensures { InLaneOf (lane_of tag self.now) result }
     {
         let living = self.table.find(Wanted::Tag(tag));
-        living
-            .or(self.table.find(Wanted::Gone(tag)))
-            .ok_or(Refusal::NotThere)
+        let lane = living.or(self.table.find(Wanted::Gone(tag)));
+        lane.ok_or(Refusal::NotThere)
     }
 
     /// A connection more, over memory that is made ready for it.
