@@ -29,14 +29,14 @@ use Rattle.endpoint.proofs.Ends.{no_peer}
 
 -- every refusal has a number
 numbered : (f : Refusal) → number f ≡ 0 → ⊥
-numbered TooLong h = let z : ◌≡◌ {A = ℕ} 1 0 = h in omega arith
-numbered ZeroTag h = let z : ◌≡◌ {A = ℕ} 3 0 = h in omega arith
-numbered TooFar h = let z : ◌≡◌ {A = ℕ} 4 0 = h in omega arith
-numbered NoSuch h = let z : ◌≡◌ {A = ℕ} 5 0 = h in omega arith
-numbered Closed h = let z : ◌≡◌ {A = ℕ} 6 0 = h in omega arith
-numbered Full h = let z : ◌≡◌ {A = ℕ} 7 0 = h in omega arith
-numbered TagThere h = let z : ◌≡◌ {A = ℕ} 8 0 = h in omega arith
-numbered AllGiven h = let z : ◌≡◌ {A = ℕ} 9 0 = h in omega arith
+numbered TooLong h = cc
+numbered ZeroTag h = cc
+numbered TooFar h = cc
+numbered NoSuch h = cc
+numbered Closed h = cc
+numbered Full h = cc
+numbered TagThere h = cc
+numbered AllGiven h = cc
 
 -- what a reader lets through is neither too long nor too far, and has its tags
 record Fields (p : m.Packet) : Type 0 where

@@ -1,5 +1,5 @@
 -- Packets heard.
-use Rattle.std.proofs.Common.{◌≡◌, ℕ, ◌≤◌, Bool, true, false, cond, not, ◌&&◌, ◌||◌, eqb, ltb, List, [], ◌∷◌, length, set, is_some, Some, None, sym, refl, ap, ◌∙◌, subst, arith}
+use Rattle.std.proofs.Common.{◌≡◌, ℕ, ◌≤◌, Bool, true, false, cond, not, ◌&&◌, ◌||◌, eqb, ltb, List, [], ◌∷◌, length, set, is_some, Some, None, sym, refl, ap, ◌∙◌, subst}
 use Rattle.std.proofs.lemmas.Bool.{and_from, and_left, and_right, cond-false, cond-true, eq-eqb, le-ltb, ne_eqb}
 use Rattle.hold.specs.Conn.{Conn, Half, new, open_with}
 use Rattle.hold.specs.Code.{is_ask}
@@ -127,11 +127,11 @@ pub record Fine (long far needed room : Bool) : Type 0 where
   pub free : needed ≡ true → room ≡ true
 
 fine : (long zero far needed room there : Bool) → cause long zero far needed room there ≡ 0 → Fine long far needed room
-fine true zero far needed room there e = absurd (let z : ◌≡◌ {A = ℕ} 1 0 = e in omega arith)
-fine false true far needed room there e = absurd (let z : ◌≡◌ {A = ℕ} 3 0 = e in omega arith)
-fine false false true needed room there e = absurd (let z : ◌≡◌ {A = ℕ} 4 0 = e in omega arith)
+fine true zero far needed room there e = absurd cc
+fine false true far needed room there e = absurd cc
+fine false false true needed room there e = absurd cc
 fine false false false needed true there e = record { short = refl; near = refl; free = λ _. refl }
-fine false false false true false there e = absurd (let z : ◌≡◌ {A = ℕ} 7 0 = e in omega arith)
+fine false false false true false there e = absurd cc
 fine false false false false false there e = record { short = refl; near = refl; free = λ n. n }
 
 module _ (x : Endpoint) (p : Packet) (t : ℕ) (e : hear_number x p t ≡ 0) where

@@ -1,6 +1,6 @@
-use Rattle.std.proofs.Common.{◌≡◌, ℕ, length, sym, refl, ◌∙◌, arith, ⊎_elim}
+use Rattle.std.proofs.Common.{length, sym, refl, ◌∙◌, ⊎_elim}
 use Rattle.hold.specs.Conn.{takes}
-use Rattle.hold.specs.World.{Takes, There, NotThere}
+use Rattle.hold.specs.World.{Takes}
 use Rattle.endpoint.specs.Stands.{cfg, lent}
 use Rattle.endpoint.proofs.Memory.{beside}
 use Rattle.endpoint.proofs.Ends.{finding, found_as, missing, steps_some}
@@ -17,11 +17,11 @@ returns c =
     (λ h. record {
       steps = steps_some x _ l b c.args.tag (λ o. Takes o c.args.tag (length c.args.out.now)) (takes (length c.args.out.now)) (λ o w. refl) r.result.0 refl refl h (λ _. r.ensures.acts (cfg x) (lent x l));
       lives = λ e s d q. r.ensures.took (cfg x) (lent x l).out (lent x l).bits d (found_as x e s c.args.tag l h d q);
-      gone = λ e s q. let f = finding x e s c.args.tag l h in let g : There f.c ≡ NotThere = sym f.there ∙ q in let z : ◌≡◌ {A = ℕ} 0 1 = cc in absurd (omega arith);
+      gone = λ e s q. absurd (cc (sym (finding x e s c.args.tag l h).there ∙ q));
     })
     (λ h. record {
       steps = takes-steps x c.args.tag l h.0 h.1 _ b r.result.0 refl refl c.args.out.now r.new.out r.result.1 (r.ensures.drained (cfg x) (lent x l).out (lent x l).bits);
-      lives = λ e s d q. let g : There d ≡ NotThere = sym q ∙ missing x e s c.args.tag h.0 in let z : ◌≡◌ {A = ℕ} 0 1 = cc in absurd (omega arith);
+      lives = λ e s d q. absurd (cc (sym q ∙ missing x e s c.args.tag h.0));
       gone = λ e s q. takes-left x c.args.tag l h.0 h.1 _ b r.result.0 refl refl c.args.out.now r.new.out r.result.1 (r.ensures.drained (cfg x) (lent x l).out (lent x l).bits) e s;
     })
     (either x c.args.tag l c.in_ok-lane.ensures.0)
