@@ -7,10 +7,6 @@ use Rattle.packet.specs.Sizes.{capacity}
 use Rattle.lent.proofs.Words.{bit_none}
 use Rattle.lent.specs.Bits.{bit, up, Marked, AllAre}
 
--- two places of one round that stand in one slot are the same
-same_place : (p q place : ℕ) → p % capacity ≡ q % capacity → place ≤ p → p < place + capacity → place ≤ q → q < place + capacity → p ≡ q
-same_place p q place e a b c d = omega arith
-
 -- where the bit of a place stands
 pub up_at : (ws : List ℕ) (p i j : ℕ) → p % capacity / 64 ≡ i → p % 64 ≡ j → up ws p ≡ bit (get_or ws i 0) j
 unfolding up
@@ -68,9 +64,6 @@ module _ (place n word from to w : ℕ) (v : Bool) (before ws : List ℕ) (few :
           grind (arith, nat_tests))
           (λ (ne : p / 64 ≡ word → ⊥). stays e (λ i. absurd (ne i)))
           (cases_eq (p / 64) word)
-
-pub all_none : (place : ℕ) (v : Bool) (ws : List ℕ) → AllAre place 0 v ws
-all_none place v ws p lo hi = absurd (omega arith)
 
 -- a run goes on in the next word, up to a bit of it
 module _ (place word stop : ℕ) (v : Bool) (ws : List ℕ) (begun : place / 64 ≤ word) (within : stop ≤ 64) where
