@@ -57,7 +57,7 @@ pub fn octet<'a>(line: &'a [u8]) -> Result<(u8, &'a [u8]), &'a [u8]>
 
 /// Writes the bytes that the front of `word` stands for, at most 1,024, to the front of `out`; says how many, and what
 /// of `word` stands behind them.
-// A count beside a buffer, and no `Vec`: whoever calls this has fixed memory and no heap.
+// A count beside a buffer, and no `Vec`: an allocation could fail, which this and `decode` can't.
 pub fn unescape<'a>(word: &'a [u8], out: &mut [u8; MOST]) -> (usize, &'a [u8])
     ensures count { result.0 ≡ length (run most word.now).0 }
     ensures rest { result.1.now ≡ (run most word.now).1 }
