@@ -4,7 +4,7 @@ use Rattle.text.specs.Fronts.{Read, and_then, strip, number}
 use Rattle.text.specs.Data.{run, whole, is_nil, fault_of, octet, most}
 use Rattle.text.specs.Words.{choose}
 use Rattle.text.proofs.Rounds.{run_nil}
-use Rattle.text.proofs.Inverse.{same, never, strip_is, choose_is, number_is}
+use Rattle.text.proofs.Inverse.{same, strip_is, choose_is, number_is}
 use Rattle.script.specs.declared.word.Verb.{Verb}
 use Rattle.script.specs.declared.word.Verb.TheVariants.{Listen, Open, Accept, Give, Take, Close, Break, State, Due, Answer, Send, Forget}
 use Rattle.script.specs.declared.word.Head.{Head}
@@ -18,7 +18,7 @@ space_is {A} bs f y e = go (strip (32 ∷ []) bs) refl e
   where
     go : (s : Result (List ℕ) (List ℕ)) → strip (32 ∷ []) bs ≡ s → onward s f ≡ Ok y → (q : List ℕ) × (bs ≡ 32 ∷ q) × (f q ≡ Ok y)
     go (Ok q) p g = (q, strip_is (32 ∷ []) bs q p, g)
-    go (Err q) p g = never q y g
+    go (Err q) p g = cc
 
 -- one word behind a space, and those behind it
 record Word {A : Type 0} (reads : List ℕ → Read A) (item : A → Item) (k : A → List ℕ → Words) (bs : List ℕ) (is : List Item) : Type 0 where
@@ -33,7 +33,7 @@ record Word {A : Type 0} (reads : List ℕ → Read A) (item : A → Item) (k : 
 
 after_is : (i : Item) (w : Words) (is : List Item) → after i w ≡ Ok is → (js : List Item) × (w ≡ Ok js) × (is ≡ i ∷ js)
 after_is i (Ok js) is e = (js, refl, sym (same (i ∷ js) is e))
-after_is i (Err r) is e = never r is e
+after_is i (Err r) is e = cc
 
 word_is : {A : Type 0} (reads : List ℕ → Read A) (item : A → Item) (k : A → List ℕ → Words) (bs : List ℕ) (is : List Item) → and_then (behind_space bs reads) (λ a q. after (item a) (k a q)) ≡ Ok is → Word reads item k bs is
 word_is {A} reads item k bs is e = go (behind_space bs reads) refl e
@@ -43,7 +43,7 @@ word_is {A} reads item k bs is e = go (behind_space bs reads) refl e
         let s = space_is bs reads x p in
         let t = after_is (item x.0) (k x.0 x.1) is f in
         record { value = x.0; front = s.0; left = x.1; others = t.0; space = s.1; here = s.2; behind = t.1; all = t.2 }
-    go (Err r) p f = never r is f
+    go (Err r) p f = cc
 
 -- it stood there as it is shown
 shown_so : {A : Type 0} (reads : List ℕ → Read A) (item : A → Item) (k : A → List ℕ → Words) (bs : List ℕ) (is : List Item) (w : Word reads item k bs is) (text : List ℕ)
@@ -52,12 +52,12 @@ shown_so reads item k bs is w text f s o =
     ap shown_behind w.all ∙ ap (λ z. z ++ shown_behind w.others) s ∙ ap (λ z. 32 ∷ (text ++ z)) o ∙ ap (λ z. 32 ∷ z) (sym f) ∙ sym w.space
 
 whole_is : (bs w : List ℕ) → whole bs ≡ Ok w → (w ≡ bs) × (0 < length bs)
-whole_is [] w e = never _ w (ap (λ z. cond (is_nil z.1 && ltb 0 (length z.0)) (Ok []) (Err (cond (eqb (length z.0) most) z.1 (fault_of (octet z.1))))) (sym (run_nil 1024)) ∙ e)
+whole_is [] w e = cc (ap (λ z. cond (is_nil z.1 && ltb 0 (length z.0)) (Ok []) (Err (cond (eqb (length z.0) most) z.1 (fault_of (octet z.1))))) (sym (run_nil 1024)) ∙ e)
 whole_is (b ∷ bs) w e = go (is_nil (run most (b ∷ bs)).1 && ltb 0 (length (run most (b ∷ bs)).0)) e
   where
     go : (t : Bool) → cond t (Ok (b ∷ bs)) (Err (cond (eqb (length (run most (b ∷ bs)).0) most) (run most (b ∷ bs)).1 (fault_of (octet (run most (b ∷ bs)).1)))) ≡ Ok w → (w ≡ b ∷ bs) × (0 < length (b ∷ bs))
     go true f = (sym (same (b ∷ bs) w f), omega arith)
-    go false f = never _ w f
+    go false f = cc
 
 one_behind : (w : List ℕ) → 0 < length w → behind_one w ++ [] ≡ 32 ∷ w
 one_behind [] l = absurd (omega arith)
@@ -73,7 +73,7 @@ bytes_are (b ∷ bs) is e = go (behind_space (b ∷ bs) whole) refl e
         let t = whole_is s.0 w s.2 in
         let l : 0 < length w = omega (arith, ap length t.0, t.1) in
         ap shown_behind (sym (same (Brings w ∷ []) is f)) ∙ one_behind w l ∙ ap (λ z. 32 ∷ z) t.0 ∙ sym s.1
-    go (Err r) p f = never r is f
+    go (Err r) p f = cc
 
 -- each number has at most 64 bits
 abbrev Narrow : List Slot → Type 0
@@ -85,7 +85,7 @@ Narrow (bytes ∷ ss) = Narrow ss
 
 rest_is : (ss : List Slot) (bs : List ℕ) (is : List Item) → Narrow ss → rest ss bs ≡ Ok is → shown_behind is ≡ bs
 rest_is [] [] is n e = ap shown_behind (sym (same [] is e))
-rest_is [] (b ∷ bs) is n e = never (b ∷ bs) is e
+rest_is [] (b ∷ bs) is n e = cc
 rest_is (side ∷ ss) bs is n e =
     let w = word_is (choose spelled_side sides) Names (λ a q. rest ss q) bs is e in
     shown_so _ _ _ bs is w (spelled_side w.value) (choose_is spelled_side sides w.front w.front w.value w.left w.here) refl (rest_is ss w.left w.others n w.behind)
@@ -131,7 +131,7 @@ words_are (b ∷ bs) is e l = go (eqb b 35) e
     line (Ok x) p f =
         let t = after_is (Begins x.0) (behind_head x.0 x.1) is f in
         ap shown_words t.2 ∙ ap (λ z. spelled_head x.0 ++ z) (behind_is x.0 x.1 t.0 t.1) ∙ sym (choose_is spelled_head heads (b ∷ bs) (b ∷ bs) x.0 x.1 p)
-    line (Err r) p f = never r is f
+    line (Err r) p f = cc
 
     go : (t : Bool) → cond t (Ok []) (and_then (choose spelled_head heads (b ∷ bs)) (λ h q. after (Begins h) (behind_head h q))) ≡ Ok is → shown_words is ≡ b ∷ bs
     go true f = absurd (omega (arith, ap length (same [] is f)))

@@ -1,5 +1,5 @@
 -- The bytes of a line.
-use Rattle.std.specs.Prelude.{ℕ, List, [], ◌∷◌, ◌++◌, map, decimal}
+use Rattle.std.specs.Prelude.{◌≡◌, ℕ, List, [], ◌∷◌, ◌++◌, map, decimal, Result, OnOk}
 use Rattle.script.specs.declared.line.Line.{Line}
 use Rattle.script.specs.Words.{spelled_side, spelled_switch, spelled_verb, spelled_head}
 use Rattle.script.specs.Parse.{Item, Begins, Calls, Names, Turns, Counts, Brings}
@@ -40,3 +40,7 @@ shown l = shown_words (words_of l)
 
 abbrev pub counted : List ℕ → List ℕ
 counted ns = shown_behind (map Counts ns)
+
+-- what a printer does to the bytes before it, unless memory runs out
+abbrev pub Appends : {E : Type 0} → Result (Unit {0}) E → List ℕ → List ℕ → List ℕ → Type 0
+Appends result old new more = OnOk result (new ≡ old ++ more)

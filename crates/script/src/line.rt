@@ -1,12 +1,17 @@
+ghost use Rattle.std.specs.Prelude.{◌≡◌, ◌++◌, codes, decimal, Some};
+
+use std::error::Error;
+use std::fmt;
+
 /// One of two ends.
-#[derive(Clone, Copy)]
+#[derive(Clone, Copy, Debug, PartialEq, Eq)]
 pub enum Side {
     L,
     R,
 }
 
 /// What is done at one end: a call of its user, or a moment of its own.
-#[derive(Clone, Copy)]
+#[derive(Clone, Copy, Debug, PartialEq, Eq)]
 pub enum Call<'a> {
     Listen { on: bool },
     Open { tag: u64 },
@@ -24,7 +29,7 @@ pub enum Call<'a> {
     Forget { tag: u64 },
 }
 
-#[derive(Clone, Copy)]
+#[derive(Clone, Copy, Debug, PartialEq, Eq)]
 pub enum Line<'a> {
     /// An empty line or a comment.
     Blank,
@@ -62,12 +67,30 @@ pub enum Line<'a> {
     },
 }
 
-/// The number of every fault of a line.
-pub const FAULT: u8 = 1;
+const FAULT: u8 = 1;
 
 /// A line that isn't one of the format.
-#[derive(Clone, Copy)]
+#[derive(Clone, Copy, Debug, PartialEq, Eq)]
 pub struct Fault {
     /// From 1: the first byte at which no line of the format can go on.
     pub column: usize,
 }
+
+impl Fault {
+    /// The number of every fault of a line.
+    pub const fn number(self) -> u8
+        ensures { result ≡ 1 }
+    {
+        FAULT
+    }
+}
+
+impl fmt::Display for Fault {
+    ghost output = { λ fault. Some (codes "column " ++ decimal fault.column) };
+
+    fn fmt<W: fmt::Write>(&self, f: &mut fmt::Formatter<W>) -> fmt::Result {
+        write!(f, "column {}", self.column)
+    }
+}
+
+impl Error for Fault {}

@@ -5,7 +5,7 @@ ghost use Rattle.script.specs.Show.{shown};
 
 use crate::argument::*;
 use crate::line::{Call, Fault, Line};
-use crate::word::{HEADS, Head, Switch, Verb};
+use crate::word::{HEADS, Head, SIDES, SWITCHES, VERBS, Verb};
 use text::word::choose;
 
 /// What a verb calls for, of what stands behind it.
@@ -14,49 +14,26 @@ fn call<'a>(verb: Verb, line: &'a [u8]) -> Result<Call<'a>, &'a [u8]>
 {
     match verb {
         Verb::Listen => listen(line),
-        Verb::Open => Ok(Call::Open {
-            tag: last_number(line)?,
-        }),
-        Verb::Accept => {
-            end(line)?;
-            Ok(Call::Accept)
-        }
+        Verb::Open => last_number(line).map(|tag| Call::Open { tag }),
+        Verb::Accept => end(line).map(|()| Call::Accept),
         Verb::Give => give(line),
-        Verb::Take => {
-            let (tag, count) = last_two(line)?;
-            Ok(Call::Take { tag, count })
-        }
-        Verb::Close => Ok(Call::Close {
-            tag: last_number(line)?,
-        }),
-        Verb::Break => Ok(Call::Break {
-            tag: last_number(line)?,
-        }),
-        Verb::State => Ok(Call::State {
-            tag: last_number(line)?,
-        }),
-        Verb::Due => Ok(Call::Due {
-            tag: last_number(line)?,
-        }),
-        Verb::Answer => Ok(Call::Answer {
-            tag: last_number(line)?,
-        }),
+        Verb::Take => last_two(line).map(|(tag, count)| Call::Take { tag, count }),
+        Verb::Close => last_number(line).map(|tag| Call::Close { tag }),
+        Verb::Break => last_number(line).map(|tag| Call::Break { tag }),
+        Verb::State => last_number(line).map(|tag| Call::State { tag }),
+        Verb::Due => last_number(line).map(|tag| Call::Due { tag }),
+        Verb::Answer => last_number(line).map(|tag| Call::Answer { tag }),
         Verb::Send => send(line),
-        Verb::Forget => Ok(Call::Forget {
-            tag: last_number(line)?,
-        }),
+        Verb::Forget => last_number(line).map(|tag| Call::Forget { tag }),
     }
 }
 
 fn listen<'a>(line: &'a [u8]) -> Result<Call<'a>, &'a [u8]>
     ensures { call_seen result ≡ beside Verb.Listen (rest (behind_verb Verb.Listen) line.now) }
 {
-    let (switch, behind) = next_switch(line)?;
+    let (switch, behind) = next_word(&SWITCHES, line)?;
     end(behind)?;
-    match switch {
-        Switch::On => Ok(Call::Listen { on: true }),
-        Switch::Off => Ok(Call::Listen { on: false }),
-    }
+    Ok(Call::Listen { on: switch.into() })
 }
 
 fn give<'a>(line: &'a [u8]) -> Result<Call<'a>, &'a [u8]>
@@ -78,7 +55,7 @@ fn send<'a>(line: &'a [u8]) -> Result<Call<'a>, &'a [u8]>
 fn damage<'a>(line: &'a [u8]) -> Result<Line<'a>, &'a [u8]>
     ensures { line_seen result ≡ after (Begins Head.Damage) (behind_head Head.Damage line.now) }
 {
-    let (to, behind) = next_side(line)?;
+    let (to, behind) = next_word(&SIDES, line)?;
     let (which, behind) = next_number(behind, u64::MAX)?;
     let (byte, behind) = next_number(behind, u64::MAX)?;
     let (mask, behind) = next_number(behind, 255)?;
@@ -99,7 +76,7 @@ fn headed<'a>(head: Head, line: &'a [u8]) -> Result<Line<'a>, &'a [u8]>
 {
     match head {
         Head::At(side) => {
-            let (verb, behind) = next_verb(line)?;
+            let (verb, behind) = next_word(&VERBS, line)?;
             let call = call(verb, behind)?;
             Ok(Line::Act {
                 side: Some(side),
@@ -110,24 +87,19 @@ fn headed<'a>(head: Head, line: &'a [u8]) -> Result<Line<'a>, &'a [u8]>
             let call = call(verb, line)?;
             Ok(Line::Act { side: None, call })
         }
-        Head::Settings => {
-            let (room, size) = last_two(line)?;
-            Ok(Line::Settings { room, size })
-        }
+        Head::Settings => last_two(line).map(|(room, size)| Line::Settings { room, size }),
         Head::Bring => {
-            let (to, behind) = next_side(line)?;
+            let (to, behind) = next_word(&SIDES, line)?;
             let (which, tag) = last_two(behind)?;
             Ok(Line::Bring { to, which, tag })
         }
         Head::Damage => damage(line),
         Head::Drive => {
-            let (side, behind) = next_side(line)?;
+            let (side, behind) = next_word(&SIDES, line)?;
             let tag = last_number(behind)?;
             Ok(Line::Drive { side, tag })
         }
-        Head::Tick => Ok(Line::Tick {
-            count: last_number(line)?,
-        }),
+        Head::Tick => last_number(line).map(|count| Line::Tick { count }),
     }
 }
 
@@ -135,10 +107,7 @@ fn headed<'a>(head: Head, line: &'a [u8]) -> Result<Line<'a>, &'a [u8]>
 fn front<'a>(line: &'a [u8]) -> Result<Line<'a>, &'a [u8]>
     ensures { line_seen result ≡ words line.now }
 {
-    let Some((first, _)) = line.split_first() else {
-        return Ok(Line::Blank);
-    };
-    if *first == b'#' {
+    if let [] | [b'#', ..] = line {
         return Ok(Line::Blank);
     }
     let (head, behind) = choose(&HEADS, line)?;
@@ -150,10 +119,7 @@ pub fn read<'a>(line: &'a [u8]) -> Result<Line<'a>, Fault>
     ensures words { line_read result ≡ parse line.now }
     ensures printed { IfOk result (λ l. 0 < length (words_of l) → shown l ≡ line.now) }
 {
-    match front(line) {
-        Ok(known) => Ok(known),
-        Err(rest) => Err(Fault {
-            column: line.len().saturating_sub(rest.len()) + 1,
-        }),
-    }
+    front(line).map_err(|rest| Fault {
+        column: line.len().saturating_sub(rest.len()) + 1,
+    })
 }

@@ -1,11 +1,12 @@
 ghost use Rattle.std.specs.Prelude.{◌≡◌};
+ghost use Rattle.script.specs.Lines.{switch_of, verb_of};
 ghost use Rattle.script.specs.Words.{spelled_head, spelled_side, spelled_switch, spelled_verb};
 
-use crate::line::Side;
+use crate::line::{Call, Side};
 use text::word::Keyword;
 
 /// The word that begins a call.
-#[derive(Clone, Copy)]
+#[derive(Clone, Copy, Debug, PartialEq, Eq)]
 pub enum Verb {
     Listen,
     Open,
@@ -22,7 +23,7 @@ pub enum Verb {
 }
 
 /// The word that begins a line.
-#[derive(Clone, Copy)]
+#[derive(Clone, Copy, Debug, PartialEq, Eq)]
 pub enum Head {
     At(Side),
     Do(Verb),
@@ -33,10 +34,48 @@ pub enum Head {
     Tick,
 }
 
-#[derive(Clone, Copy)]
+/// Whether users may open connections.
+#[derive(Clone, Copy, Debug, PartialEq, Eq)]
 pub enum Switch {
     On,
     Off,
+}
+
+impl From<Call<'_>> for Verb {
+    ghost from_gives = { λ call verb. verb ≡ verb_of call };
+
+    fn from(call: Call<'_>) -> Verb {
+        match call {
+            Call::Listen { .. } => Verb::Listen,
+            Call::Open { .. } => Verb::Open,
+            Call::Accept => Verb::Accept,
+            Call::Give { .. } => Verb::Give,
+            Call::Take { .. } => Verb::Take,
+            Call::Close { .. } => Verb::Close,
+            Call::Break { .. } => Verb::Break,
+            Call::State { .. } => Verb::State,
+            Call::Due { .. } => Verb::Due,
+            Call::Answer { .. } => Verb::Answer,
+            Call::Send { .. } => Verb::Send,
+            Call::Forget { .. } => Verb::Forget,
+        }
+    }
+}
+
+impl From<bool> for Switch {
+    ghost from_gives = { λ on switch. switch ≡ switch_of on };
+
+    fn from(on: bool) -> Switch {
+        if on { Switch::On } else { Switch::Off }
+    }
+}
+
+impl From<Switch> for bool {
+    ghost from_gives = { λ switch on. switch ≡ switch_of on };
+
+    fn from(switch: Switch) -> bool {
+        matches!(switch, Switch::On)
+    }
 }
 
 pub const SIDES: [Side; 2] = [Side::L, Side::R];

@@ -1,7 +1,7 @@
--- The column of a fault, or 0.
-use Rattle.std.specs.Prelude.{ℕ, List, Ok, Err, Result}
+-- The column of a fault, where there is one.
+use Rattle.std.specs.Prelude.{ℕ, List, Some, None, Ok, Err, Option, Result}
 use Rattle.script.specs.Parse.{Item}
 
-abbrev pub column_of : Result (List Item) ℕ → ℕ
-column_of (Ok is) = 0
-column_of (Err column) = column
+abbrev pub column_of : Result (List Item) ℕ → Option ℕ
+column_of (Ok is) = None
+column_of (Err column) = Some column

@@ -13,22 +13,19 @@ use Rattle.text.specs.Back.{Bytes}
 pub same : {A : Type 0} (x y : A) → ◌≡◌ {A = Result A (List ℕ)} (Ok x) (Ok y) → x ≡ y
 same x y e = cc
 
-pub never : {A X : Type 0} (r : List ℕ) (y : A) → ◌≡◌ {A = Result A (List ℕ)} (Err r) (Ok y) → X
-never r y e = absurd (let z : ◌≡◌ {A = ℕ} 0 1 = cc in omega arith)
-
 pub strip_is : (ws bs r : List ℕ) → strip ws bs ≡ Ok r → bs ≡ ws ++ r
 unfolding strip
-strip_is [] bs r e = same bs r e
-strip_is (w ∷ ws) [] r e = never [] r e
+strip_is [] bs r e = cc
+strip_is (w ∷ ws) [] r e = cc
 strip_is (w ∷ ws) (b ∷ bs) r e = go (eqb b w) refl e (λ h. strip_is ws bs r h)
   where
     go : (t : Bool) → eqb b w ≡ t → cond t (strip ws bs) (Err (b ∷ bs)) ≡ Ok r → (strip ws bs ≡ Ok r → bs ≡ ws ++ r) → b ∷ bs ≡ w ∷ (ws ++ r)
     go true p f k = let x = eqb-true b w p in let y = k f in cc
-    go false p f k = never (b ∷ bs) r f
+    go false p f k = cc
 
 pub choose_is : {K : Type 0} (spelt : K → List ℕ) (ws : List K) (line far : List ℕ) (w : K) (r : List ℕ) → choose_from spelt ws line far ≡ Ok (w, r) → line ≡ spelt w ++ r
 unfolding choose_from
-choose_is spelt [] line far w r e = never far (w, r) e
+choose_is spelt [] line far w r e = cc
 choose_is spelt (v ∷ ws) line far w r e = go (strip (spelt v) line) refl e (λ near f. choose_is spelt ws line near w r f)
   where
     go : (s : Result (List ℕ) (List ℕ)) → strip (spelt v) line ≡ s → tried v s far (choose_from spelt ws line) ≡ Ok (w, r) → ((near : List ℕ) → choose_from spelt ws line near ≡ Ok (w, r) → line ≡ spelt w ++ r) → line ≡ spelt w ++ r
@@ -64,7 +61,7 @@ digits_are limit m (b ∷ bs) n r l e = go (is_digit b) (leb (10 * m + (b - 48))
     go true true p q f k =
         let s = k (leb-true _ _ q) f in
         record { ds = b ∷ s.ds; front = ap (λ z. b ∷ z) s.front; all = and_from _ _ p s.all; value = s.value; small = s.small }
-    go true false p q f k = never (b ∷ bs) (n, r) f
+    go true false p q f k = cc
     go false u p q f k =
         let t = same (m, b ∷ bs) (n, r) f in
         let x : n ≡ m = sym (ap (λ z. z.0) t) in
@@ -72,7 +69,7 @@ digits_are limit m (b ∷ bs) n r l e = go (is_digit b) (leb (10 * m + (b - 48))
 
 pub number_is : (limit : ℕ) (bs : List ℕ) (n : ℕ) (r : List ℕ) → limit < 2 ^ 64 → number limit bs ≡ Ok (n, r) → (bs ≡ decimal n ++ r) × (n ≤ limit)
 unfolding digits read_on
-number_is limit [] n r l e = never [] (n, r) e
+number_is limit [] n r l e = cc
 number_is limit (b ∷ bs) n r l e = go (is_digit b) (eqb b 48) (leb (10 * 0 + (b - 48)) limit) refl refl refl e
   where
     go : (t u v : Bool) → is_digit b ≡ t → eqb b 48 ≡ u → leb (10 * 0 + (b - 48)) limit ≡ v → cond t (cond u (Ok (0, bs)) (cond t (cond v (digits limit (10 * 0 + (b - 48)) bs) (Err (b ∷ bs))) (Ok (0, b ∷ bs)))) (Err (b ∷ bs)) ≡ Ok (n, r)
@@ -89,11 +86,11 @@ number_is limit (b ∷ bs) n r l e = go (is_digit b) (eqb b 48) (leb (10 * 0 + (
         let k : n ≤ limit = s.small in
         let d : decimal (read_on 0 ds) ≡ ds = decimal-digits_value own ds (and_from _ _ p s.all) (omega arith) (λ h. absurd (eqb-false b 48 q h)) (omega arith) in
         (ap (λ z. b ∷ z) s.front ∙ ap (λ z. z ++ r) (sym (ap decimal v ∙ d)), k)
-    go true false false p q w f = never (b ∷ bs) (n, r) f
-    go false u v p q w f = never (b ∷ bs) (n, r) f
+    go true false false p q w f = cc
+    go false u v p q w f = cc
 
 nibble_is : (bs : List ℕ) (d : ℕ) (r : List ℕ) → nibble bs ≡ Ok (d, r) → (bs ≡ hex_of d ∷ r) × (d < 16)
-nibble_is [] d r e = never [] (d, r) e
+nibble_is [] d r e = cc
 nibble_is (b ∷ bs) d r e = go (is_digit b) (leb 65 b && leb b 70) refl refl e
   where
     found : (v : ℕ) → ◌≡◌ {A = Read ℕ} (Ok (v, bs)) (Ok (d, r)) → hex_of v ≡ b → v < 16 → (b ∷ bs ≡ hex_of d ∷ r) × (d < 16)
@@ -105,7 +102,7 @@ nibble_is (b ∷ bs) d r e = go (is_digit b) (leb 65 b && leb b 70) refl refl e
     go : (t u : Bool) → is_digit b ≡ t → (leb 65 b && leb b 70) ≡ u → cond {A = Read ℕ} t (Ok (b - 48, bs)) (cond u (Ok (b - 55, bs)) (Err (b ∷ bs))) ≡ Ok (d, r) → (b ∷ bs ≡ hex_of d ∷ r) × (d < 16)
     go true u p q f = found (b - 48) f (grind (arith, nat_tests)) (omega (arith, leb-true b 57 (and_parts (leb 48 b) (leb b 57) p).1))
     go false true p q f = found (b - 55) f (grind (arith, nat_tests)) (omega (arith, leb-true b 70 (and_parts (leb 65 b) (leb b 70) q).1))
-    go false false p q f = never (b ∷ bs) (d, r) f
+    go false false p q f = cc
 
 escaped : (h l : ℕ) → h < 16 → l < 16 → is_plain (16 * h + l) ≡ false → written (16 * h + l) ≡ 37 ∷ hex_of h ∷ hex_of l ∷ []
 escaped h l m k p =
@@ -117,7 +114,7 @@ escape_is : (bs : List ℕ) (v : ℕ) (r : List ℕ) → escape bs ≡ Ok (v, r)
 escape_is bs v r e = high (nibble bs) refl e
   where
     plain : (h l : ℕ) (q s : List ℕ) → h < 16 → bs ≡ hex_of h ∷ q → (q ≡ hex_of l ∷ s) × (l < 16) → (t : Bool) → is_plain (16 * h + l) ≡ t → cond {A = Read ℕ} t (Err q) (Ok (16 * h + l, s)) ≡ Ok (v, r) → (37 ∷ bs ≡ written v ++ r) × (v < 256)
-    plain h l q s m b n true p f = never q (v, r) f
+    plain h l q s m b n true p f = cc
     plain h l q s m b n false p f =
         let t = same (16 * h + l, s) (v, r) f in
         let x : 16 * h + l ≡ v = ap (λ z. z.0) t in
@@ -126,18 +123,18 @@ escape_is bs v r e = high (nibble bs) refl e
 
     low : (h : ℕ) (q : List ℕ) → h < 16 → bs ≡ hex_of h ∷ q → (x : Read ℕ) → nibble q ≡ x → and_then {B = ℕ × List ℕ} x (λ l s. cond (is_plain (16 * h + l)) (Err q) (Ok (16 * h + l, s))) ≡ Ok (v, r) → (37 ∷ bs ≡ written v ++ r) × (v < 256)
     low h q m b (Ok x) p f = plain h x.0 q x.1 m b (nibble_is q x.0 x.1 p) (is_plain (16 * h + x.0)) refl f
-    low h q m b (Err s) p f = never s (v, r) f
+    low h q m b (Err s) p f = cc
 
     two : (h : ℕ) (q : List ℕ) (t : Bool) → cond t (Err bs) (and_then {B = ℕ × List ℕ} (nibble q) (λ l s. cond (is_plain (16 * h + l)) (Err q) (Ok (16 * h + l, s)))) ≡ Ok (v, r) → h < 16 → bs ≡ hex_of h ∷ q → (37 ∷ bs ≡ written v ++ r) × (v < 256)
-    two h q true g m b = never bs (v, r) g
+    two h q true g m b = cc
     two h q false g m b = low h q m b (nibble q) refl g
 
     high : (x : Read ℕ) → nibble bs ≡ x → and_then {B = ℕ × List ℕ} x (λ h q. cond (ltb 2 h && ltb h 7) (Err bs) (and_then (nibble q) (λ l s. cond (is_plain (16 * h + l)) (Err q) (Ok (16 * h + l, s))))) ≡ Ok (v, r) → (37 ∷ bs ≡ written v ++ r) × (v < 256)
-    high (Err s) p f = never s (v, r) f
+    high (Err s) p f = cc
     high (Ok x) p f = let n = nibble_is bs x.0 x.1 p in two x.0 x.1 (ltb 2 x.0 && ltb x.0 7) f n.1 n.0
 
 octet_is : (bs : List ℕ) (v : ℕ) (r : List ℕ) → octet bs ≡ Ok (v, r) → (bs ≡ written v ++ r) × (v < 256)
-octet_is [] v r e = never [] (v, r) e
+octet_is [] v r e = cc
 octet_is (b ∷ bs) v r e = go (eqb b 37) (is_plain b) refl refl e
   where
     go : (t u : Bool) → eqb b 37 ≡ t → is_plain b ≡ u → cond t (escape bs) (cond u (Ok (b, bs)) (Err (b ∷ bs))) ≡ Ok (v, r) → (b ∷ bs ≡ written v ++ r) × (v < 256)
@@ -147,7 +144,7 @@ octet_is (b ∷ bs) v r e = go (eqb b 37) (is_plain b) refl refl e
         let l : b < 127 = ltb-true b 127 (and_parts (ltb b 127) (not (eqb b 37)) (and_parts (ltb 32 b) (ltb b 127 && not (eqb b 37)) q).1).0 in
         let x : b ≡ v = ap (λ z. z.0) t in
         (ap (λ z. z ++ bs) (sym (cond-true _ _ _ q)) ∙ ap (λ z. written z.0 ++ z.1) t, omega arith)
-    go false false p q f = never (b ∷ bs) (v, r) f
+    go false false p q f = cc
 
 -- at most n bytes are read, and they stood there encoded
 pub record RunIs (n : ℕ) (bs : List ℕ) : Type 0 where

@@ -1,5 +1,5 @@
 -- What a loop over data has read or written so far.
-use Rattle.std.proofs.Common.{◌≡◌, ℕ, zero, suc, ◌+◌, ◌-◌, ◌<◌, ◌≤◌, List, [], ◌∷◌, ◌++◌, length, get_or, take, drop, set, Ok, Err, sym, refl, ap, ◌∙◌, arith}
+use Rattle.std.proofs.Common.{◌≡◌, ℕ, zero, suc, ◌+◌, ◌-◌, ◌<◌, ◌≤◌, List, [], ◌∷◌, ◌++◌, length, get_or, take, drop, set, Ok, Err, sym, refl, ap, ◌∙◌, subst, arith}
 use Rattle.std.proofs.lemmas.List.{append_assoc, append-nil, at_drop_more, at_drop_all, drop-drop, drop-set-lt, length-set, length-take-le, take-append-drop, take_more_set}
 use Rattle.text.specs.Data.{run, onward, octet, written, encode}
 
@@ -76,5 +76,7 @@ done before ds n rest out s e =
 pub done_stop : (before ds : List ℕ) (n : ℕ) (rest out r : List ℕ) → SoFar before ds n rest out → Err r ≡ octet rest → Done before ds n rest out
 done_stop before ds n rest out r s e = done before ds n rest out s (run_stop (1024 - n) rest r e)
 
-pub done_full : (before ds : List ℕ) (n : ℕ) (rest out : List ℕ) → SoFar before ds n rest out → 1024 ≤ n → Done before ds n rest out
-done_full before ds n rest out s l = done before ds n rest out s (run_none (1024 - n) rest (omega arith))
+pub done_full : (before ds : List ℕ) (n : ℕ) (rest out : List ℕ) → SoFar before ds n rest out → 1024 ≤ n → Done before ds 1024 rest out
+done_full before ds n rest out s l =
+    let e : n ≡ 1024 = omega (arith, s.within) in
+    subst (λ k. Done before ds k rest out) e (done before ds n rest out s (run_none (1024 - n) rest (omega arith)))

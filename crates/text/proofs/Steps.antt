@@ -1,24 +1,40 @@
--- One step of a loop over the front of a line.
-use Rattle.std.proofs.Common.{◌≡◌, ℕ, ◌+◌, ◌-◌, ◌*◌, ◌<◌, ◌≤◌, true, false, List, [], ◌∷◌, ◌++◌, length, get_or, take, drop, Ok, Err, sym, refl, ap, ◌∙◌, arith}
-use Rattle.std.proofs.lemmas.List.{append_assoc, append-nil, drop_more, drop_all, take_all, take_more, take_rest}
-use Rattle.std.proofs.lemmas.Bool.{eq-eqb, ne_eqb, le-leb, lt-leb}
+-- What stands at the front of a line, by its first bytes.
+use Rattle.std.proofs.Common.{◌≡◌, ℕ, suc, ◌+◌, ◌-◌, ◌*◌, ◌<◌, ◌≤◌, Bool, true, false, eqb, List, [], ◌∷◌, length, get_or, take, drop, Some, None, Ok, Err, refl, ap, arith}
+use Rattle.std.specs.List.{prefix_len, position, position_or_len, zip}
+use Rattle.std.proofs.lemmas.List.{drop_more, drop_all, take_all, take_rest}
+use Rattle.std.proofs.lemmas.Bool.{le-leb, lt-leb}
+use Rattle.std.proofs.lemmas.Bool.Decides.{nat_tests}
 use Rattle.text.specs.Fronts.{strip, digits, is_digit, split_line}
 
-pub strip_more : (ws bs : List ℕ) (i : ℕ) → i < length ws → i < length bs → get_or bs i 0 ≡ get_or ws i 0 → strip (drop i ws) (drop i bs) ≡ strip (drop (i + 1) ws) (drop (i + 1) bs)
-unfolding strip
-strip_more ws bs i v w e = rw (drop_more ws i 0 v, drop_more bs i 0 w, eq-eqb _ _ e)
+-- how many bytes of a line are those of a word
+abbrev pub same_len : List ℕ → List ℕ → ℕ
+same_len bs ws = prefix_len (λ p. eqb p.0 p.1) (zip bs ws)
 
-pub strip_differs : (ws bs : List ℕ) (i : ℕ) → i < length ws → i < length bs → (get_or bs i 0 ≡ get_or ws i 0 → ⊥) → Err (take (length bs - i) (drop i bs)) ≡ strip (drop i ws) (drop i bs)
-unfolding strip
-strip_differs ws bs i v w e = rw (take_rest bs i, drop_more ws i 0 v, drop_more bs i 0 w, ne_eqb _ _ e)
+-- what is behind those, where they are the whole word and where they are not
+record Strips (ws bs : List ℕ) (k : ℕ) : Type 0 where
+  all : k ≡ length ws → Ok (drop k bs) ≡ strip ws bs
+  some : (k ≡ length ws → ⊥) → Err (drop k bs) ≡ strip ws bs
 
-pub strip-ends : (ws bs : List ℕ) (i : ℕ) → i < length ws → length bs ≤ i → Err (take (length bs - i) (drop i bs)) ≡ strip (drop i ws) (drop i bs)
+strips : (ws bs : List ℕ) → Strips ws bs (same_len bs ws)
 unfolding strip
-strip-ends ws bs i v w = rw (take_rest bs i, drop_more ws i 0 v, drop_all i bs w)
+strips [] [] = record { all = λ e. refl; some = λ n. absurd (n refl) }
+strips [] (b ∷ bs) = record { all = λ e. refl; some = λ n. absurd (n refl) }
+strips (w ∷ ws) [] = record { all = λ e. absurd (omega (arith, e)); some = λ n. refl }
+strips (w ∷ ws) (b ∷ bs) = go (eqb b w) refl (strips ws bs)
+  where
+    go : (t : Bool) → eqb b w ≡ t → Strips ws bs (same_len bs ws) → Strips (w ∷ ws) (b ∷ bs) (same_len (b ∷ bs) (w ∷ ws))
+    go true e h =
+        let s : same_len (b ∷ bs) (w ∷ ws) ≡ suc (same_len bs ws) = rw e (omega arith) in
+        rw s record { all = λ k. rw e (h.all (omega arith)); some = λ n. rw e (h.some (λ k. n (omega (arith, k)))) }
+    go false e h =
+        let s : same_len (b ∷ bs) (w ∷ ws) ≡ 0 = rw e in
+        rw s record { all = λ k. absurd (omega (arith, k)); some = λ n. rw e }
 
-pub strip_all : (ws bs : List ℕ) (i : ℕ) → length ws ≡ i → Ok (take (length bs - length ws) (drop (length ws) bs)) ≡ strip (drop i ws) (drop i bs)
-unfolding strip
-strip_all ws bs i v = let l : length ws ≤ i = omega arith in rw (take_rest bs (length ws), drop_all i ws l, v)
+pub strip_all : (line word : List ℕ) → same_len line word ≡ length word → Ok (take (length line - same_len line word) (drop (same_len line word) line)) ≡ strip word line
+strip_all line word e = rw (take_rest line (same_len line word)) ((strips word line).all e)
+
+pub strip_some : (line word : List ℕ) → (same_len line word ≡ length word → ⊥) → Err (take (length line - same_len line word) (drop (same_len line word) line)) ≡ strip word line
+strip_some line word n = rw (take_rest line (same_len line word)) ((strips word line).some n)
 
 module _ (most n : ℕ) (bs : List ℕ) (i : ℕ) where
   pub digits_more : i < length bs → is_digit (get_or bs i 0) ≡ true → 10 * n + (get_or bs i 0 - 48) ≤ most → digits most n (drop i bs) ≡ digits most (10 * n + (get_or bs i 0 - 48)) (drop (i + 1) bs)
@@ -33,38 +49,33 @@ module _ (most n : ℕ) (bs : List ℕ) (i : ℕ) where
   unfolding digits
   digits_past v d l = rw (take_rest bs i, drop_more bs i 0 v, d, lt-leb _ _ l)
 
-  pub digits_all : length bs ≤ i → Ok (n, take (length bs - length bs) (drop (length bs) bs)) ≡ digits most n (drop i bs)
+  pub digits_all : length bs ≤ i → Ok (n, []) ≡ digits most n (drop i bs)
   unfolding digits
-  digits_all v = let l : length bs ≤ length bs = omega arith in rw (take_rest bs (length bs), drop_all (length bs) bs l, drop_all i bs v)
+  digits_all v = rw (drop_all i bs v)
 
-split_step : (b : ℕ) (bs : List ℕ) → (b ≡ 10 → ⊥) → split_line (b ∷ bs) ≡ (b ∷ (split_line bs).0, (split_line bs).1)
+abbrev feed_at : List ℕ → ℕ
+feed_at s = position_or_len (λ b. eqb b 10) s
+
+split_by : (s : List ℕ) → split_line s ≡ (take (feed_at s) s, drop (feed_at s + 1) s)
 unfolding split_line
-split_step b bs n = rw (ne_eqb b 10 n)
+split_by [] = refl
+split_by (b ∷ bs) = go (eqb b 10) refl (split_by bs)
+  where
+    go : (t : Bool) → eqb b 10 ≡ t → split_line bs ≡ (take (feed_at bs) bs, drop (feed_at bs + 1) bs) → split_line (b ∷ bs) ≡ (take (feed_at (b ∷ bs)) (b ∷ bs), drop (feed_at (b ∷ bs) + 1) (b ∷ bs))
+    go true e h = rw e
+    go false e h =
+        let s : feed_at (b ∷ bs) ≡ suc (feed_at bs) = rw e (omega arith) in
+        let k : suc (feed_at bs) + 1 ≡ suc (feed_at bs + 1) = omega arith in
+        rw (s, k, e) (ap (λ z. (b ∷ z.0, z.1)) h)
 
-split_feed : (b : ℕ) (bs : List ℕ) → b ≡ 10 → split_line (b ∷ bs) ≡ ([], bs)
-unfolding split_line
-split_feed b bs e = rw (eq-eqb b 10 e)
+module _ (s : List ℕ) where
+  pub split_here : (i : ℕ) → Some i ≡ position (λ b. eqb b 10) s → (take i s ≡ (split_line s).0) × (take (length s - (i + 1)) (drop (i + 1) s) ≡ (split_line s).1)
+  split_here i e =
+      let k : i ≡ feed_at s = grind (arith, nat_tests) in
+      rw (take_rest s (i + 1), split_by s, k) (refl, refl)
 
-split_none : split_line [] ≡ ([], [])
-unfolding split_line
-split_none = refl
-
-module _ (s : List ℕ) (i : ℕ) (inv : (take i s ++ (split_line (drop i s)).0 ≡ (split_line s).0) × ((split_line (drop i s)).1 ≡ (split_line s).1)) where
-  pub split_more : i < length s → (get_or s i 0 ≡ 10 → ⊥) → (take (i + 1) s ++ (split_line (drop (i + 1) s)).0 ≡ (split_line s).0) × ((split_line (drop (i + 1) s)).1 ≡ (split_line s).1)
-  split_more l n =
-      let step = ap split_line (drop_more s i 0 l) ∙ split_step (get_or s i 0) (drop (i + 1) s) n in (
-        ap (λ z. z ++ (split_line (drop (i + 1) s)).0) (take_more s i 0 l) ∙ append_assoc (take i s) (get_or s i 0 ∷ []) (split_line (drop (i + 1) s)).0 ∙ ap (λ z. take i s ++ z.0) (sym step) ∙ inv.0,
-        ap (λ z. z.1) (sym step) ∙ inv.1,
-      )
-
-  pub split_here : i < length s → get_or s i 0 ≡ 10 → (take (i - 0) s ≡ (split_line s).0) × (take (length s - (i + 1)) (drop (i + 1) s) ≡ (split_line s).1)
-  split_here l e =
-      let step = ap split_line (drop_more s i 0 l) ∙ split_feed (get_or s i 0) (drop (i + 1) s) e in
-      let z : i - 0 ≡ i = omega arith in
-      (ap (λ j. take j s) z ∙ sym (append-nil (take i s)) ∙ ap (λ z. take i s ++ z.0) (sym step) ∙ inv.0, take_rest s (i + 1) ∙ ap (λ z. z.1) (sym step) ∙ inv.1)
-
-  pub split_all : length s ≤ i → (s ≡ (split_line s).0) × (take (length s - length s) (drop (length s) s) ≡ (split_line s).1)
-  split_all l =
-      let step = ap split_line (drop_all i s l) ∙ split_none in
-      let k : length s ≤ length s = omega arith in
-      (sym (take_all i s l) ∙ sym (append-nil (take i s)) ∙ ap (λ z. take i s ++ z.0) (sym step) ∙ inv.0, take_rest s (length s) ∙ drop_all (length s) s k ∙ ap (λ z. z.1) (sym step) ∙ inv.1)
+  pub split_all : None ≡ position (λ b. eqb b 10) s → (s ≡ (split_line s).0) × (◌≡◌ {A = List ℕ} [] (split_line s).1)
+  split_all e =
+      let k : length s ≤ feed_at s = grind (arith, nat_tests) in
+      let l : length s ≤ feed_at s + 1 = omega arith in
+      rw (split_by s, take_all (feed_at s) s k, drop_all (feed_at s + 1) s l) (refl, refl)

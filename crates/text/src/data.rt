@@ -1,9 +1,8 @@
-ghost use Rattle.std.specs.Prelude.{◌≡◌, ◌<◌, ◌++◌, length, drop, IfOk, OnOk};
+ghost use Rattle.std.specs.Prelude.{◌≡◌, ◌<◌, ◌≤◌, ◌++◌, length, drop, IfOk, OnOk};
 ghost use Rattle.text.specs.Fronts.{left, seen};
 ghost use Rattle.text.specs.Data.{is_plain, hex_of, nibble, escape, octet, run, most, whole, written, encode};
 ghost use Rattle.text.specs.Back.{Decoded};
 
-use crate::front::is_digit;
 use std::alloc::{AllocError, Global};
 
 /// Most bytes that one word of data stands for.
@@ -13,7 +12,7 @@ pub const MOST: usize = 1024;
 fn is_plain(byte: u8) -> bool
     ensures { result ≡ is_plain byte }
 {
-    32 < byte && byte < 127 && byte != b'%'
+    byte.is_ascii_graphic() && byte != b'%'
 }
 
 /// The hex digit at the front of `line`, and what stands behind it; else `line`.
@@ -21,16 +20,11 @@ fn nibble<'a>(line: &'a [u8]) -> Result<(u8, &'a [u8]), &'a [u8]>
     ensures digit { seen result ≡ nibble line.now }
     ensures small { IfOk result (λ x. x.0 < 16) }
 {
-    let Some((byte, rest)) = line.split_first() else {
-        return Err(line);
-    };
-    if is_digit(*byte) {
-        return Ok((*byte - b'0', rest));
+    match line {
+        [byte @ b'0'..=b'9', rest @ ..] => Ok((*byte - b'0', rest)),
+        [byte @ b'A'..=b'F', rest @ ..] => Ok((*byte - b'A' + 10, rest)),
+        _ => Err(line),
     }
-    if *byte >= b'A' && *byte <= b'F' {
-        return Ok((*byte - b'A' + 10, rest));
-    }
-    Err(line)
 }
 
 /// The byte that the two hex digits behind a `%` stand for: none that stands for itself.
@@ -54,41 +48,36 @@ fn escape<'a>(line: &'a [u8]) -> Result<(u8, &'a [u8]), &'a [u8]>
 pub fn octet<'a>(line: &'a [u8]) -> Result<(u8, &'a [u8]), &'a [u8]>
     ensures { seen result ≡ octet line.now }
 {
-    let Some((byte, rest)) = line.split_first() else {
-        return Err(line);
-    };
-    if *byte == b'%' {
-        return escape(rest);
+    match line {
+        [b'%', rest @ ..] => escape(rest),
+        [byte, rest @ ..] if is_plain(*byte) => Ok((*byte, rest)),
+        _ => Err(line),
     }
-    if !is_plain(*byte) {
-        return Err(line);
-    }
-    Ok((*byte, rest))
 }
 
 /// Writes the bytes that the front of `word` stands for, at most 1,024, to the front of `out`; says how many, and what
 /// of `word` stands behind them.
+// A count beside a buffer, and no `Vec`: an allocation could fail, which this and `decode` can't.
 pub fn unescape<'a>(word: &'a [u8], out: &mut [u8; MOST]) -> (usize, &'a [u8])
     ensures count { result.0 ≡ length (run most word.now).0 }
     ensures rest { result.1.now ≡ (run most word.now).1 }
     ensures bytes { out.new ≡ (run most word.now).0 ++ drop result.0 out.old }
 {
     let mut rest = word;
-    let mut n = 0;
-    while n < MOST {
+    for (n, slot) in out.iter_mut().enumerate() {
         let Ok((byte, behind)) = octet(rest) else {
-            break;
+            return (n, rest);
         };
-        out[n] = byte;
-        n += 1;
+        *slot = byte;
         rest = behind;
     }
-    (n, rest)
+    (MOST, rest)
 }
 
 /// Decodes a word of data into the front of `out`, and says how many bytes it was.
 pub fn decode(word: &[u8], out: &mut [u8; MOST]) -> usize
     ensures count { result ≡ length (run most word.now).0 }
+    ensures few { result ≤ MOST }
     ensures bytes { out.new ≡ (run most word.now).0 ++ drop result out.old }
     ensures back { Decoded word.now result out.old out.new }
 {
@@ -109,8 +98,7 @@ pub fn whole<'a>(line: &'a [u8]) -> Result<&'a [u8], &'a [u8]>
         return Err(rest);
     }
     match octet(rest) {
-        Ok((_, behind)) => Err(behind),
-        Err(at) => Err(at),
+        Ok((_, at)) | Err(at) => Err(at),
     }
 }
 
@@ -118,11 +106,7 @@ fn hex(digit: u8) -> u8
     requires { digit < 16 }
     ensures { result ≡ hex_of digit }
 {
-    if digit < 10 {
-        b'0' + digit
-    } else {
-        b'A' + (digit - 10)
-    }
+    b"0123456789ABCDEF"[digit as usize]
 }
 
 /// Appends one byte of data.
@@ -130,8 +114,7 @@ fn push_octet(byte: u8, out: &mut Vec<u8>) -> Result<(), AllocError>
     ensures { OnOk result (out.new.items ≡ out.old.items ++ written byte) }
 {
     if is_plain(byte) {
-        out.push(byte)?;
-        return Ok(());
+        return out.extend_from_slice(&[byte]);
     }
     out.extend_from_slice(&[b'%', hex(byte / 16), hex(byte % 16)])
 }

@@ -21,11 +21,8 @@ pub fn choose<'a, K: Keyword>(words: &[K], line: &'a [u8]) -> Result<(K, &'a [u8
     for word in words {
         match strip(line, word.spelling()) {
             Ok(rest) => return Ok((*word, rest)),
-            Err(at) => {
-                if at.len() < far.len() {
-                    far = at;
-                }
-            }
+            Err(at) if at.len() < far.len() => far = at,
+            Err(_) => {}
         }
     }
     Err(far)

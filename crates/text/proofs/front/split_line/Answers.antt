@@ -1,11 +1,15 @@
-use Rattle.text.proofs.Steps.{split_more, split_here, split_all}
+use Rattle.std.proofs.Common.{eqb, rules, sym, tests, ◌∙◌}
+use Rattle.std.proofs.lemmas.Iterator.{YieldsList-from_slice}
+use Rattle.std.proofs.lemmas.Iterator.Search.{position_from_yields_List}
+use Rattle.text.proofs.Steps.{split_here, split_all}
 use Rattle.text.proofs.front.split_line.Goals as goal
 
-pub returns-then-script-i-eq10 : goal.returns-then-script-i-eq10
-returns-then-script-i-eq10 c = let h = split_here _ _ c.loop-i.invariant c.loop-i-test.true c.if-script-i-eq10.true in record { line = h.0; rest = h.1 }
+pub returns-in-Some : goal.returns-in-Some
+returns-in-Some c =
+    let h = split_here _ _ (sym c.in-Some.is ∙ position_from_yields_List (λ b. eqb b 10) _ _ _ c.position.ensures.ran (YieldsList-from_slice c.args.script.now cc) (λ x b q k. search (rules, tests))) in
+    record { line = h.0; rest = h.1 }
 
-pub loop-i-preserved : goal.loop-i-preserved
-loop-i-preserved c = split_more _ _ c.loop-i.invariant c.loop-i-test.true c.if-script-i-eq10.false
-
-pub returns : goal.returns
-returns c = let h = split_all _ _ c.loop-i.invariant c.loop-i-test.false in record { line = h.0; rest = h.1 }
+pub returns-in-None : goal.returns-in-None
+returns-in-None c =
+    let h = split_all _ (sym c.in-None.is ∙ position_from_yields_List (λ b. eqb b 10) _ _ _ c.position.ensures.ran (YieldsList-from_slice c.args.script.now cc) (λ x b q k. search (rules, tests))) in
+    record { line = h.0; rest = h.1 }
