@@ -1,8 +1,10 @@
 -- What one side does is what the pair does.
-use Rattle.std.proofs.Common.{◌≡◌, ℕ, List, [], ◌∷◌, ◌++◌, take, Ok, Err, vec_items, Result, sym, refl, ap, ◌∙◌, subst}
+use Rattle.std.proofs.Common.{◌≡◌, ℕ, List, [], ◌∷◌, ◌++◌, ◌-◌, length, take, Some, Ok, Err, vec_items, Result, sym, refl, ap, ◌∙◌, subst}
 use Rattle.std.proofs.lemmas.Bool.{false≢true}
-use Rattle.hold.specs.Packet as m
-use Rattle.hold.specs.World.{Ev, Gives, L, R, Who, World, end, is_in, start, step, world}
+use Rattle.std.specs.List.{slice_get}
+use Rattle.std.specs.Prelude.{Vec}
+use Rattle.std.specs.declared.alloc.Global.{Global}
+use Rattle.hold.specs.World.{Ev, Gives, Hears, L, R, Who, World, coming_to, end, is_in, other, start, step, world}
 use Rattle.packet.specs.declared.packet.Packet.{Packet}
 use Rattle.packet.specs.Agreed.{cfg_of}
 use Rattle.packet.specs.declared.settings.Settings.{Settings}
@@ -10,87 +12,78 @@ use Rattle.endpoint.specs.Stands as E
 use Rattle.party.specs.Plays.{Acts, Gave, Plays, Stays, Tried}
 use Rattle.party.specs.declared.Fault.{Fault}
 use Rattle.party.specs.declared.Party.{Party}
-use Rattle.simulation.specs.Shows.{Does, Half, Next, Placed, Shows, net_of, net_to, party_of, when_ok}
+use Rattle.simulation.specs.Shows.{Begins, Does, HalfDoes, Next, Shows, half_of, net_of, net_to, party_of, when_ok, who_of}
+use Rattle.simulation.specs.Seen.{sent_to}
+use Rattle.simulation.specs.Sides.{of_side, with_side}
+use Rattle.simulation.specs.declared.half.Half.{Half}
 use Rattle.simulation.specs.declared.pair.Pair.{Pair}
-use Rattle.simulation.proofs.OneSide.{half_moves, put_drawn, stepped}
+use Rattle.simulation.specs.declared.pair.Side.{Side}
+use Rattle.simulation.specs.declared.pair.Side.TheVariants.{Left, Right}
+use Rattle.simulation.proofs.OneSide.{half_acts, put_drawn}
 
-module _ (p q : Pair) (fs : Who → World → List Ev) where
-  left_at : Half p.left q.left (vec_items p.to_left) (vec_items p.to_right) (vec_items q.to_right) (vec_items p.drawn) (vec_items q.drawn) fs → q.right ≡ p.right → q.to_left ≡ p.to_left →
-      (es : List Ev) → Shows (E.cfg p.left.end) p (world (E.cfg p.left.end) es) → Shows (E.cfg p.left.end) q (world (E.cfg p.left.end) (fs L (world (E.cfg p.left.end) es) ++ es))
-  left_at h er el es s = go (h.acted L es s.left s.to_l s.to_r s.drawn)
+-- what holds of one side and of the other
+both : (P : Who → Type 0) (o : Who) → P o → P (other o) → (u : Who) → P u
+both P L a b L = a
+both P L a b R = b
+both P R a b L = b
+both P R a b R = a
+
+module _ (p q : Pair) (o : Who) (fs : Who → World → List Ev) (h : HalfDoes (half_of o p) (half_of o q) (net_to o p) (vec_items p.drawn) (vec_items q.drawn) fs) (same : half_of (other o) q ≡ half_of (other o) p)
+    (back : net_to (other o) q ≡ vec_items (half_of o q).sent) (forth : net_to (other o) p ≡ vec_items (half_of o p).sent) where
+  at : (es : List Ev) → Shows (E.cfg (party_of o p).end) p (world (E.cfg (party_of o p).end) es) → Shows (E.cfg (party_of o p).end) q (world (E.cfg (party_of o p).end) (fs o (world (E.cfg (party_of o p).end) es) ++ es))
+  at es s = go (h.acted o es (s.plays o) (s.came o) (s.came (other o) ∙ ap net_of forth) s.drawn)
     where
-      go : Next q.left (vec_items q.to_right) (vec_items q.drawn) L (world (E.cfg p.left.end) es) (world (E.cfg p.left.end) (fs L (world (E.cfg p.left.end) es) ++ es)) → Shows (E.cfg p.left.end) q (world (E.cfg p.left.end) (fs L (world (E.cfg p.left.end) es) ++ es))
+      go : Next (half_of o q) (vec_items q.drawn) o (world (E.cfg (party_of o p).end) es) (world (E.cfg (party_of o p).end) (fs o (world (E.cfg (party_of o p).end) es) ++ es)) → Shows (E.cfg (party_of o p).end) q (world (E.cfg (party_of o p).end) (fs o (world (E.cfg (party_of o p).end) es) ++ es))
       go n = record {
-        cfg_left = ap cfg_of h.settings;
-        cfg_right = ap (λ z. E.cfg z.end) er ∙ s.cfg_right;
-        left = n.plays;
-        right = subst (λ z. Plays z (world (E.cfg p.left.end) (fs L (world (E.cfg p.left.end) es) ++ es)).right) (sym er) (subst (Plays p.right) (sym n.far) s.right);
-        to_l = n.back ∙ s.to_l ∙ sym (ap (λ z. net_of (vec_items z)) el);
-        to_r = n.sends;
+        settings = both (λ u. E.cfg (party_of u q).end ≡ E.cfg (party_of o p).end) o (ap cfg_of h.settings) (ap (λ z. E.cfg z.party.end) same ∙ s.settings (other o));
+        plays = both (λ u. Plays (party_of u q) (end u (world (E.cfg (party_of o p).end) (fs o (world (E.cfg (party_of o p).end) es) ++ es)))) o n.plays (subst (λ z. Plays z.party (end (other o) (world (E.cfg (party_of o p).end) (fs o (world (E.cfg (party_of o p).end) es) ++ es)))) (sym same) (subst (Plays (party_of (other o) p)) (sym n.far) (s.plays (other o))));
+        came = both (λ u. coming_to u (world (E.cfg (party_of o p).end) (fs o (world (E.cfg (party_of o p).end) es) ++ es)) ≡ net_of (net_to u q)) o (n.back ∙ s.came o ∙ sym (ap (λ z. net_of (vec_items z.sent)) same)) (n.sends ∙ sym (ap net_of back));
         drawn = n.drawn;
       }
 
-  right_at : Half p.right q.right (vec_items p.to_right) (vec_items p.to_left) (vec_items q.to_left) (vec_items p.drawn) (vec_items q.drawn) fs → q.left ≡ p.left → q.to_right ≡ p.to_right →
-      (es : List Ev) → Shows (E.cfg p.right.end) p (world (E.cfg p.right.end) es) → Shows (E.cfg p.right.end) q (world (E.cfg p.right.end) (fs R (world (E.cfg p.right.end) es) ++ es))
-  right_at h el er es s = go (h.acted R es s.right s.to_r s.to_l s.drawn)
-    where
-      go : Next q.right (vec_items q.to_left) (vec_items q.drawn) R (world (E.cfg p.right.end) es) (world (E.cfg p.right.end) (fs R (world (E.cfg p.right.end) es) ++ es)) → Shows (E.cfg p.right.end) q (world (E.cfg p.right.end) (fs R (world (E.cfg p.right.end) es) ++ es))
-      go n = record {
-        cfg_left = ap (λ z. E.cfg z.end) el ∙ s.cfg_left;
-        cfg_right = ap cfg_of h.settings;
-        left = subst (λ z. Plays z (world (E.cfg p.right.end) (fs R (world (E.cfg p.right.end) es) ++ es)).left) (sym el) (subst (Plays p.left) (sym n.far) s.left);
-        right = n.plays;
-        to_l = n.sends;
-        to_r = n.back ∙ s.to_r ∙ sym (ap (λ z. net_of (vec_items z)) er);
-        drawn = n.drawn;
-      }
+  does_at : Does p q (fs o)
+  does_at cfg es s = subst (λ z. Shows z p (world z es) → Shows z q (world z (fs o (world z es) ++ es))) (s.settings o) (at es) s
 
-  abbrev Goes : Who → m.Settings → Type 0
-  Goes o cfg = (es : List Ev) → Shows cfg p (world cfg es) → Shows cfg q (world cfg (fs o (world cfg es) ++ es))
+-- events that go by the settings of a side
+pub moved_own : (p : Pair) (s : Side) (h g : Half) (ds : Vec ℕ Global) (fs : Party → Who → World → List Ev) → h ≡ of_side s p.halves → HalfDoes h g (net_to (who_of s) p) (vec_items p.drawn) (vec_items ds) (fs h.party) →
+    Does p (record { halves = with_side s p.halves g; drawn = ds }) (fs (party_of (who_of s) p) (who_of s))
+moved_own p Left h g ds fs e d = does_at p _ L (fs p.halves.left.party) (subst (λ z. HalfDoes z g (net_to L p) (vec_items p.drawn) (vec_items ds) (fs z.party)) e d) refl refl refl
+moved_own p Right h g ds fs e d = does_at p _ R (fs p.halves.right.party) (subst (λ z. HalfDoes z g (net_to R p) (vec_items p.drawn) (vec_items ds) (fs z.party)) e d) refl refl refl
 
-  pub left_does : (o : Who) → o ≡ L → Half p.left q.left (vec_items p.to_left) (vec_items p.to_right) (vec_items q.to_right) (vec_items p.drawn) (vec_items q.drawn) fs → q.right ≡ p.right → q.to_left ≡ p.to_left → Does p q (fs o)
-  left_does o e h er el cfg es s = subst (λ u. Goes u cfg) (sym e) (subst (Goes L) s.cfg_left (left_at h er el)) es s
-
-  pub right_does : (o : Who) → o ≡ R → Half p.right q.right (vec_items p.to_right) (vec_items p.to_left) (vec_items q.to_left) (vec_items p.drawn) (vec_items q.drawn) fs → q.left ≡ p.left → q.to_right ≡ p.to_right → Does p q (fs o)
-  right_does o e h el er cfg es s = subst (λ u. Goes u cfg) (sym e) (subst (Goes R) s.cfg_right (right_at h el er)) es s
+pub moved : (p : Pair) (s : Side) (h g : Half) (ds : Vec ℕ Global) (fs : Who → World → List Ev) → h ≡ of_side s p.halves → HalfDoes h g (net_to (who_of s) p) (vec_items p.drawn) (vec_items ds) fs →
+    Does p (record { halves = with_side s p.halves g; drawn = ds }) (fs (who_of s))
+moved p s h g ds fs = moved_own p s h g ds (λ _. fs)
 
 -- calls that send and draw nothing
-module _ (p q : Party) (inn out : List Packet) (ts : List ℕ) where
-  pub acts_half : (ev : Who → Ev) → ((o : Who) (w : World) → (step (E.cfg p.end) (ev o) w).drawn ≡ w.drawn) → Acts p q [] ev → Half p q inn out out ts ts (λ o _. ev o ∷ [])
-  acts_half ev d a = half_moves p q inn out out [] (λ o. step (E.cfg p.end) (ev o)) (λ o _. ev o ∷ []) refl ts a (λ o es. stepped (E.cfg p.end) (ev o) es) d
+module _ (h : Half) (q : Party) (came : List Packet) (ts : List ℕ) where
+  stays_half : Stays h.party q → HalfDoes h (record h { party = q }) came ts ts (λ _ _. [])
+  stays_half s = record { settings = s.settings; acted = λ o es k e f g. record { plays = s.plays _ k; sends = f; far = refl; back = refl; drawn = g } }
 
-  pub stays_half : Stays p q → Half p q inn out out ts ts (λ _ _. [])
-  stays_half s = record { settings = s.settings; acted = λ o es h e f g. record { plays = s.plays _ h; sends = f; far = refl; back = refl; drawn = g } }
+  pub acts_half : (ev : Who → Ev) → ((o : Who) (w : World) → (step (E.cfg h.party.end) (ev o) w).drawn ≡ w.drawn) → Acts h.party q [] ev → HalfDoes h (record h { party = q }) came ts ts (λ o _. ev o ∷ [])
+  acts_half ev d a = half_acts h (record h { party = q }) came _ [] ts (λ o _. ev o) d refl refl a
 
-  pub tried_half : {A : Type 0} (ev : Who → Ev) → ((o : Who) (w : World) → (step (E.cfg p.end) (ev o) w).drawn ≡ w.drawn) → (r : Result A Fault) → Tried p q ev r → Half p q inn out out ts ts (λ o _. when_ok (λ _. ev o ∷ []) r)
+  pub tried_half : {A : Type 0} (ev : Who → Ev) → ((o : Who) (w : World) → (step (E.cfg h.party.end) (ev o) w).drawn ≡ w.drawn) → (r : Result A Fault) → Tried h.party q ev r → HalfDoes h (record h { party = q }) came ts ts (λ o _. when_ok (λ _. ev o ∷ []) r)
   tried_half ev d (Ok a) t = acts_half ev d t
   tried_half ev d (Err f) t = stays_half t
 
-  pub gave_half : (t : ℕ) (bs : List ℕ) (r : Result ℕ Fault) → Gave p q t bs r → Half p q inn out out ts ts (λ o _. when_ok (λ n. Gives o t (take n bs) ∷ []) r)
+  pub gave_half : (t : ℕ) (bs : List ℕ) (r : Result ℕ Fault) → Gave h.party q t bs r → HalfDoes h (record h { party = q }) came ts ts (λ o _. when_ok (λ n. Gives o t (take n bs) ∷ []) r)
   gave_half t bs (Ok n) g = acts_half (λ o. Gives o t (take n bs)) (λ o w. put_drawn o _ _ _ w) g
   gave_half t bs (Err f) g = stays_half g
 
--- what comes, by another name
-pub inn_as : (p q : Party) (inn inn' out out' : List Packet) (ts ts' : List ℕ) (fs : Who → World → List Ev) → inn ≡ inn' → Half p q inn out out' ts ts' fs → Half p q inn' out out' ts ts' fs
-inn_as p q inn inn' out out' ts ts' fs e h = subst (λ z. Half p q z out out' ts ts' fs) e h
-
--- events that go by the settings of a side
-module _ (p q : Pair) (fs : Party → Who → World → List Ev) where
-  pub left_own : (o : Who) → o ≡ L → Half p.left q.left (vec_items p.to_left) (vec_items p.to_right) (vec_items q.to_right) (vec_items p.drawn) (vec_items q.drawn) (fs p.left) → q.right ≡ p.right → q.to_left ≡ p.to_left →
-      Does p q (fs (party_of o p) o)
-  left_own o e h er el = subst (λ u. Does p q (fs (party_of u p) u)) (sym e) (left_does p q (fs p.left) L refl h er el)
-
-  pub right_own : (o : Who) → o ≡ R → Half p.right q.right (vec_items p.to_right) (vec_items p.to_left) (vec_items q.to_left) (vec_items p.drawn) (vec_items q.drawn) (fs p.right) → q.left ≡ p.left → q.to_right ≡ p.to_right →
-      Does p q (fs (party_of o p) o)
-  right_own o e h el er = subst (λ u. Does p q (fs (party_of u p) u)) (sym e) (right_does p q (fs p.right) R refl h el er)
-
-pub new_shows : (p : Pair) (s : Settings) → p.left.end.settings ≡ s → p.right.end.settings ≡ s → ((o : Who) → Plays p.left (end o start)) → ((o : Who) → Plays p.right (end o start)) → vec_items p.to_left ≡ [] → vec_items p.to_right ≡ [] → Shows (cfg_of s) p start
+pub new_shows : (p : Pair) (s : Settings) → Begins s p.halves.left → Begins s p.halves.right → Shows (cfg_of s) p start
 unfolding is_in
-new_shows p s el er l r tl tr = record { cfg_left = ap cfg_of el; cfg_right = ap cfg_of er; left = l L; right = r R; to_l = sym (ap net_of tl); to_r = sym (ap net_of tr); drawn = λ t h. absurd (false≢true h) }
+new_shows p s l r = record {
+  settings = both (λ o. E.cfg (party_of o p).end ≡ cfg_of s) L (ap cfg_of l.settings) (ap cfg_of r.settings);
+  plays = both (λ o. Plays (party_of o p) (end o start)) L (l.plays L) (r.plays R);
+  came = both (λ o. coming_to o start ≡ net_of (net_to o p)) L (sym (ap net_of r.sent)) (sym (ap net_of l.sent));
+  drawn = λ t h. absurd (false≢true h);
+}
 
--- the place of a packet that was brought
-pub placed_left : (p : Pair) (o : Who) (i : ℕ) (r : Result ℕ Fault) → o ≡ L → (xs : List Packet) → xs ≡ vec_items p.to_left → Placed xs i r → Placed (net_to o p) i r
-placed_left p o i r e xs k h = subst (λ u. Placed (net_to u p) i r) (sym e) (subst (λ z. Placed z i r) k h)
+pub came_is : (p : Pair) (s : Side) → sent_to s p ≡ net_to (who_of s) p
+came_is p Left = refl
+came_is p Right = refl
 
-pub placed_right : (p : Pair) (o : Who) (i : ℕ) (r : Result ℕ Fault) → o ≡ R → (xs : List Packet) → xs ≡ vec_items p.to_right → Placed xs i r → Placed (net_to o p) i r
-placed_right p o i r e xs k h = subst (λ u. Placed (net_to u p) i r) (sym e) (subst (λ z. Placed z i r) k h)
+-- a packet of those that came is heard
+pub delivered : (p : Pair) (s : Side) (h g : Half) (ds : Vec ℕ Global) (came : List Packet) (i t : ℕ) (x : Packet) (r : Result (Unit {0}) Fault) → h ≡ of_side s p.halves → came ≡ net_to (who_of s) p → slice_get came i ≡ Some x →
+    ((ps : List Packet) (j : ℕ) → slice_get ps j ≡ Some x → HalfDoes h g ps (vec_items p.drawn) (vec_items ds) (λ o _. when_ok (λ _. Hears o (length ps - 1 - j) t ∷ []) r)) → Does p (record { halves = with_side s p.halves g; drawn = ds }) (λ _. when_ok (λ _. Hears (who_of s) (length came - 1 - i) t ∷ []) r)
+delivered p s h g ds came i t x r e n a d = moved p s h g ds (λ o _. when_ok (λ _. Hears o (length came - 1 - i) t ∷ []) r) e (subst (λ z. HalfDoes h g z (vec_items p.drawn) (vec_items ds) (λ o _. when_ok (λ _. Hears o (length came - 1 - i) t ∷ []) r)) n (d came i a))

@@ -6,7 +6,7 @@ use Rattle.hold.specs.Drive.{Both, HasAll, drive, left}
 use Rattle.hold.specs.Packet as m
 use Rattle.hold.specs.Promise.{At, lives}
 use Rattle.hold.specs.Self.{made, missing}
-use Rattle.hold.specs.World.{Ev, Found, L, NotThere, R, There, Who, World, by_tag, end, gone, is_asked, other, world}
+use Rattle.hold.specs.World.{Ev, Found, L, NotThere, There, Who, World, by_tag, end, gone, is_asked, other, world}
 use Rattle.hold.proofs.Bricks.{false_true}
 use Rattle.hold.proofs.Drive.{drive_brings_lem}
 use Rattle.hold.proofs.Inv.{apart-at, inv}
@@ -26,18 +26,13 @@ use Rattle.ledger.specs.Sentence.{Account}
 use Rattle.ledger.specs.Tells.{Tells}
 use Rattle.ledger.specs.declared.record.View.{View}
 use Rattle.ledger.proofs.Sentences.{conn_of_lem}
-use Rattle.party.specs.Plays.{Plays}
 use Rattle.party.specs.declared.Fault.{Fault}
 use Rattle.simulation.specs.Carry.{Brought, Carried, Driven, Seen, driven_to}
 use Rattle.simulation.specs.Shows.{Runs, Shows, party_of}
 use Rattle.simulation.specs.declared.pair.Pair.{Pair}
 
-plays_at : (cfg : m.Settings) (p : Pair) (w : World) → Shows cfg p w → (o : Who) → Plays (party_of o p) (end o w)
-plays_at cfg p w s L = s.left
-plays_at cfg p w s R = s.right
-
 cfg-at : (cfg : m.Settings) (p : Pair) (w : World) → Shows cfg p w → 0 < cfg.room
-cfg-at cfg p w s = let k = p.left.end.settings.some in omega (arith, k, ap (λ z. z.room) s.cfg_left)
+cfg-at cfg p w s = let k = p.halves.left.party.end.settings.some in omega (arith, k, ap (λ z. z.room) (s.settings L))
 
 -- what the code holds was given within its limit
 given_small : (cfg : m.Settings) (mem : ℕ → Rings) (x : Table) (cs : List Conn) → Lodges cfg mem x cs → (t : ℕ) (c : Conn) → by_tag t cs ≡ There c → length c.given ≤ most
@@ -84,7 +79,7 @@ module _ (p q : Pair) (o : Who) (t n : ℕ) (vc vd : View) (see-c : Seen p o t (
     }
 
     enough : left c d ≤ n
-    enough = omega (arith, left-most c d, length-drop (length c.got) d.given, rounds, gd, rc, given_small _ _ (party_of (other o) p).end.table _ (plays_at cfg p (world cfg es) s (other o)).stands.table vc.peer d fd)
+    enough = omega (arith, left-most c d, length-drop (length c.got) d.given, rounds, gd, rc, given_small _ _ (party_of (other o) p).end.table _ (s.plays (other o)).stands.table vc.peer d fd)
 
     brings : (length (made cfg es (drive cfg es n o t vc.peer capacity)) ≤ 6 * missing c d + 12) × ((x : Conn) → At o (world cfg (driven_to cfg es n o t vc.peer)) x → x.mine ≡ c.mine → HasAll x d)
     brings = subst (λ z. (length (made cfg es (drive cfg es n o t z capacity)) ≤ 6 * missing c d + 12) × ((x : Conn) → At o (world cfg (driven_to cfg es n o t z)) x → x.mine ≡ c.mine → HasAll x d)) mine_d
@@ -93,14 +88,14 @@ module _ (p q : Pair) (o : Who) (t n : ℕ) (vc vd : View) (see-c : Seen p o t (
 
     -- an account of a connection with a tag tells of the one that was found
     tells_of : (u : Who) (gs : List Ev) (r : Pair) → Shows cfg r (world cfg gs) → (a : Account) (f : Conn) → Memᴰ a (accounts (party_of u r).book) → Memᴰ f (end u (world cfg gs)).conns → a.tag ≡ f.mine → Tells a f
-    tells_of u gs r h a f i k e = go (conn_of_lem _ _ (plays_at cfg r (world cfg gs) h u).keeps.tell a i)
+    tells_of u gs r h a f i k e = go (conn_of_lem _ _ (h.plays u).keeps.tell a i)
       where
         go : (x : Conn) × Memᴰ x (end u (world cfg gs)).conns × Tells a x → Tells a f
         go (x, j, g) = subst (Tells a) (one_tag _ x f (apart-at _ (inv cfg gs).tagged u) j k (sym g.tag ∙ e)) g
 
     seen_so : (k : ℕ) → Shows cfg q (world cfg (driven_to cfg es n o t vc.peer)) → k ≡ min (2 ^ 64 - 1) (length (made cfg es (drive cfg es n o t vc.peer capacity))) →
         Brought (accounts (party_of o p).book) (accounts (party_of (other o) p).book) (accounts (party_of o q).book) t k
-    seen_so k h e a b x ma mb mx ta tx one = go (conn_of_lem _ _ (plays_at cfg q (world cfg (driven_to cfg es n o t vc.peer)) h o).keeps.tell x mx)
+    seen_so k h e a b x ma mb mx ta tx one = go (conn_of_lem _ _ (h.plays o).keeps.tell x mx)
       where
         tc : Tells a c
         tc = tells_of o es p s a c ma both.at_c (ta ∙ sym mine_c)

@@ -4,7 +4,7 @@ use Rattle.std.proofs.Common.{ℕ, List, [], ◌++◌, Ok, Err, Result}
 use native.Mathlib.Bridge.{le_prop}
 use native.Mathlib.Nat.{ℕ_set}
 use mathlib.Core.Logic.{∥∥₁_elim, ∥∥₁_map, ∥∥₁_prop}
-use Rattle.hold.specs.World.{Ev, Who, World, start, world}
+use Rattle.hold.specs.World.{Ev, L, R, Who, World, start, world}
 use Rattle.hold.specs.Packet as m
 use Rattle.ledger.specs.Books.{accounts}
 use Rattle.ledger.specs.Sentence.{Sentence}
@@ -24,10 +24,10 @@ pub runs_new : (cfg : m.Settings) (p : Pair) → Shows cfg p start → ∥ Runs 
 unfolding world
 runs_new cfg p s = ∣ (cfg, [], s) ∣₁
 
-said : (p : Pair) → Runs p → Sentence (accounts p.left.book) (accounts p.right.book)
-said p (cfg, es, s) = sentence cfg es (accounts p.left.book) (accounts p.right.book) s.left.keeps.tell s.right.keeps.tell
+said : (p : Pair) → Runs p → Sentence (accounts p.halves.left.party.book) (accounts p.halves.right.party.book)
+said p (cfg, es, s) = sentence cfg es (accounts p.halves.left.party.book) (accounts p.halves.right.party.book) (s.plays L).keeps.tell (s.plays R).keeps.tell
 
-pub keeps_sentence : (p : Pair) → ∥ Runs p ∥₁ → Sentence (accounts p.left.book) (accounts p.right.book)
+pub keeps_sentence : (p : Pair) → ∥ Runs p ∥₁ → Sentence (accounts p.halves.left.party.book) (accounts p.halves.right.party.book)
 keeps_sentence p t = (λ c m h. ∥∥₁_elim t ∥∥₁_prop (λ r. (said p r).0 c m h), λ c m h. ∥∥₁_elim t ∥∥₁_prop (λ r. (said p r).1 c m h))
 
 pub runs_go : (p q : Pair) → Goes p q → ∥ Runs p ∥₁ → ∥ Runs q ∥₁

@@ -1,79 +1,65 @@
 -- What the code sees and does is what a move of the model makes.
-use Rattle.std.proofs.Common.{◌≡◌, ℕ, zero, suc, ◌+◌, ◌-◌, ◌<◌, Bool, true, false, not, ◌&&◌, ◌||◌, eqb, ltb, List, [], ◌∷◌, ◌++◌, length, get_or, take, Some, None, sym, refl, ap, ◌∙◌, subst, append_assoc, arith, length-append}
+use Rattle.std.proofs.Common.{◌≡◌, ℕ, ◌+◌, ◌-◌, ◌<◌, Bool, true, false, not, ◌&&◌, ◌||◌, eqb, List, [], ◌∷◌, ◌++◌, length, take, Some, None, Ok, Option, sym, refl, ap, ◌∙◌, subst, append_assoc, arith, length-append}
 use Rattle.std.proofs.lemmas.List.{take_all, take_more}
+use Rattle.std.proofs.lemmas.Option.{get_or_from_slice_get, slice_get_within}
+use Rattle.std.specs.List.{slice_get}
+use Rattle.std.specs.Option.{MatchOption}
 use Rattle.std.proofs.lemmas.Bool.{and_from, and_right, cond-false, cond-true, eq-eqb, ne_eqb}
-use Rattle.std.proofs.lemmas.Bool.Decides.{nat_tests}
-use Rattle.hold.specs.Code.{has_bytes, is_text, owes, wants_answer}
+use Rattle.hold.specs.Code.{owes, wants_answer}
 use Rattle.hold.specs.Conn.{Asked, Conn, Gone, Half, Open, Phase}
 use Rattle.hold.specs.Drive.{speaks_in}
 use Rattle.hold.specs.Packet as m
-use Rattle.hold.specs.Self.{Brings, is_yes, makes, on_clock, on_hearing, on_nth, speaks}
-use Rattle.hold.specs.World.{Due, Ev, Found, Hears, L, NotThere, R, Sends, There, Who, World, by_tag, coming_to, end, gone, is_asked, is_open, world}
+use Rattle.hold.specs.Self.{Brings, is_yes, on_clock, on_hearing, on_nth, speaks}
+use Rattle.hold.specs.World.{Due, Ev, Found, Hears, NotThere, Sends, There, Who, World, by_tag, end, gone, is_asked, is_open, world}
 use Rattle.hold.proofs.Bricks.{false_true}
 use Rattle.hold.proofs.Table.{by_tag_mem}
-use Rattle.packet.specs.Packets.{kind_of, packet}
-use Rattle.packet.specs.declared.packet.Kind.{Kind}
+use Rattle.packet.specs.Packets.{packet}
 use Rattle.packet.specs.declared.packet.Packet.{Packet}
 use Rattle.endpoint.specs.Saying.{upto_of}
 use Rattle.ledger.specs.Books.{view_of}
 use Rattle.ledger.specs.declared.record.View.{View}
-use Rattle.simulation.specs.Shows.{Shows, answers, net_of, net_to}
+use Rattle.simulation.specs.Carry.{Goes, HeardLatest, Latest, Made1, Seen}
+use Rattle.simulation.specs.Shows.{Does, Placed, Shows, answers, net_of, net_to, who_of}
+use Rattle.simulation.specs.Seen.{sent_to}
+use Rattle.simulation.specs.declared.pair.Side.{Side}
 use Rattle.simulation.specs.declared.pair.Pair.{Pair}
+use Rattle.simulation.proofs.BothSides.{came_is}
 use Rattle.simulation.proofs.Nets.{net_push}
 
 -- the last packet is the latest
-pub latest_none : (net : List Packet) → length net ≡ 0 → net ≡ []
-latest_none [] e = refl
-latest_none (x ∷ xs) e = absurd (omega (arith, e))
-
-pub latest_some : (net : List Packet) (d : Packet) → (length net ≡ 0 → ⊥) → (qs : List m.Packet) × (net_of net ≡ packet (get_or net (length net - 1) d) ∷ qs)
-latest_some net d h = (net_of (take (length net - 1) net), net_push (take (length net - 1) net) net (get_or net (length net - 1) d) (Some (get_or net (length net - 1) d)) refl (sym whole))
+-- the last packet of a net is the latest
+latest_is : (net : List Packet) (p : Packet) → slice_get net (length net - 1) ≡ Some p → (qs : List m.Packet) × (net_of net ≡ packet p ∷ qs)
+latest_is net p e = (net_of (take (length net - 1) net), net_push (take (length net - 1) net) net p (Some p) refl (sym whole))
   where
-    some : 0 < length net
-    some = go (length net) h
-      where
-        go : (n : ℕ) → (n ≡ 0 → ⊥) → 0 < n
-        go zero k = absurd (k refl)
-        go (suc n) k = omega arith
+    some : length net - 1 < length net
+    some = slice_get_within net (length net - 1) p e
 
-    whole : take (length net - 1) net ++ get_or net (length net - 1) d ∷ [] ≡ net
-    whole = sym (take_more net (length net - 1) d (omega (arith, some))) ∙ take_all (length net - 1 + 1) net (omega (arith, some))
+    whole : take (length net - 1) net ++ p ∷ [] ≡ net
+    whole = ap (λ z. take (length net - 1) net ++ z ∷ []) (sym (get_or_from_slice_get net (length net - 1) p p e)) ∙ sym (take_more net (length net - 1) p some) ∙ take_all (length net - 1 + 1) net (omega (arith, some))
 
-pub has_bytes_lem : (n : ℕ) (xs : List ℕ) → 0 < length xs → ltb 0 n ≡ has_bytes (take n xs)
-has_bytes_lem zero xs l = refl
-has_bytes_lem (suc n) [] l = absurd (omega arith)
-has_bytes_lem (suc n) (x ∷ xs) l = grind (arith, nat_tests)
-
-pub wants_so : (k : Kind) (l h : Bool) → k ≡ Kind.Text → l ≡ false → h ≡ (is_text (kind_of k) && (l || h))
-wants_so k l h e f = sym (ap (λ z. is_text (kind_of z) && (l || h)) e ∙ ap (λ z. z || h) f)
-
-pub either_true : (a b : Bool) → a ≡ true → a ≡ (a || b)
-either_true a b e = e ∙ sym (ap (λ z. z || b) e)
-
-pub either_false : (a b : Bool) → a ≡ false → b ≡ (a || b)
-either_false a b e = sym (ap (λ z. z || b) e)
+pub came_last : (p q : Pair) (s : Side) (came : List Packet) (x : Packet) (k : ℕ) → came ≡ sent_to s p → slice_get came (length came - 1) ≡ Some x → Placed (net_to (who_of s) p) (length came - 1) (Ok k) → Does p q (λ _. Hears (who_of s) k 0 ∷ []) → HeardLatest p q (who_of s) (Ok x)
+came_last p q s came x k e at (l, a) d =
+    let n = e ∙ came_is p s in
+    let z : k ≡ 0 = omega (arith, a, ap length n) in
+    (subst (λ y. Latest y (Some x)) n (latest_is came x at), subst (λ y. Does p q (λ _. Hears (who_of s) y 0 ∷ [])) z d)
 
 pub not-not : (b : Bool) → not b ≡ false → b ≡ true
 not-not true e = refl
 not-not false e = sym e
 
 -- who speaks, as it is seen
-pub speaks_none : (f : Found) → None ≡ view_of f → false ≡ speaks_in f
-speaks_none NotThere e = refl
-speaks_none (There c) e = absurd (let z : ◌≡◌ {A = ℕ} 0 1 = cc in omega arith)
-
 says : (c : Conn) (h : Phase) → gone h ≡ false → (not (is_open h) || owes c) ≡ speaks c h
 says c Asked g = refl
 says c Half g = refl
 says c Open g = refl
 says c Gone g = false_true _ g refl
 
-pub speaks_some : (t : ℕ) (cs : List Conn) (v : View) → Some v ≡ view_of (by_tag t cs) → (not v.opened || v.owes) ≡ speaks_in (by_tag t cs)
-speaks_some t cs v e = go (by_tag t cs) refl e
+pub speaks_so : (t : ℕ) (cs : List Conn) (o : Option View) (b : Bool) (P : View → Type 0) → o ≡ view_of (by_tag t cs) → MatchOption o (b ≡ false) P → ((v : View) → P v → b ≡ (not v.opened || v.owes)) → b ≡ speaks_in (by_tag t cs)
+speaks_so t cs o b P e h g = go (by_tag t cs) refl (subst (λ z. MatchOption z (b ≡ false) P) e h)
   where
-    go : (f : Found) → by_tag t cs ≡ f → Some v ≡ view_of f → (not v.opened || v.owes) ≡ speaks_in f
-    go NotThere q k = absurd (let z : ◌≡◌ {A = ℕ} 0 1 = cc in omega arith)
-    go (There c) q k = let a : v.opened ≡ is_open c.phase = cc in let b : v.owes ≡ owes c = cc in ap (λ x. not x || v.owes) a ∙ ap (λ x. not (is_open c.phase) || x) b ∙ says c c.phase (by_tag_mem t cs c q).2
+    go : (f : Found) → by_tag t cs ≡ f → MatchOption (view_of f) (b ≡ false) P → b ≡ speaks_in f
+    go NotThere q k = k
+    go (There c) q k = g _ k ∙ says c c.phase (by_tag_mem t cs c q).2
 
 -- a clock
 pub clock_none : (o : Who) (f : Found) → speaks_in f ≡ false → on_clock o f ≡ []
@@ -128,21 +114,43 @@ module _ (cfg : m.Settings) (o : Who) (k : m.Packet) where
       pub hearing_due : wants_answer k ≡ false → is_yes k.kind ≡ true → v.opened ≡ true → on_hearing cfg o k (by_tag k.to cs) ≡ Due o k.to ∷ []
       hearing_due w y z = found _ (λ c m a b d _. cond-true _ _ _ (for_it c a b) ∙ cond-false _ _ _ w ∙ cond-true _ _ _ (and_from _ _ y (sym d ∙ z)) ∙ ap (λ u. Due o u ∷ []) m)
 
-shows_net : (cfg : m.Settings) (p : Pair) (w : World) → Shows cfg p w → (o : Who) → coming_to o w ≡ net_of (net_to o p)
-shows_net cfg p w s L = s.to_l
-shows_net cfg p w s R = s.to_r
-
 pub answers_are : (cfg : m.Settings) (p : Pair) (w : World) → Shows cfg p w → (o : Who) (t : ℕ) → answers p o t w ≡ Sends o t (upto_of (by_tag t (end o w).conns)) cfg.size ∷ []
-answers_are cfg p w s L t = ap (λ z. Sends L t (upto_of (by_tag t w.left.conns)) z.size ∷ []) s.cfg_left
-answers_are cfg p w s R t = ap (λ z. Sends R t (upto_of (by_tag t w.right.conns)) z.size ∷ []) s.cfg_right
+answers_are cfg p w s o t = ap (λ z. Sends o t (upto_of (by_tag t (end o w).conns)) z.size ∷ []) (s.settings o)
 
--- a packet that is brought, and what is said to it
-pub brought : (cfg : m.Settings) (p q : Pair) (o : Who) (es : List Ev) (k : m.Packet) → Shows cfg p (world cfg es) → (qs : List m.Packet) × (net_of (net_to o p) ≡ k ∷ qs) → (fs : List Ev) (n : ℕ) → on_hearing cfg o k (by_tag k.to (end o (world cfg (Hears o 0 0 ∷ es))).conns) ≡ fs → length fs + 1 ≡ n →
-    Shows cfg q (world cfg (fs ++ (Hears o 0 0 ∷ es))) → Shows cfg q (world cfg (makes cfg (world cfg es) (Brings o 0 0) ++ es)) × (length (makes cfg (world cfg es) (Brings o 0 0)) ≡ n)
-unfolding on_nth world
-brought cfg p q o es k s (qs, net) fs n e l t = makes_as cfg q es (fs ++ (Hears o 0 0 ∷ [])) _ n
-    (ap (λ z. on_nth cfg o 0 z (end o (world cfg (Hears o 0 0 ∷ es))).conns ++ (Hears o 0 0 ∷ [])) (shows_net cfg p (world cfg es) s o ∙ net) ∙ ap (λ z. z ++ (Hears o 0 0 ∷ [])) e)
-    (length-append fs (Hears o 0 0 ∷ []) ∙ l) (subst (λ z. Shows cfg q (world cfg z)) (sym (append_assoc fs (Hears o 0 0 ∷ []) es)) t)
+-- the latest packet came, and what its connection says to it
+module _ (p q : Pair) (o : Who) (x : Packet) (came : HeardLatest p q o (Ok x)) where
+  brought : (r : Pair) (n : ℕ) → ((cfg : m.Settings) (es : List Ev) → Shows cfg q (world cfg (Hears o 0 0 ∷ es)) →
+      (fs : List Ev) × (on_hearing cfg o (packet x) (by_tag x.head.to (end o (world cfg (Hears o 0 0 ∷ es))).conns) ≡ fs) × (length fs + 1 ≡ n) × Shows cfg r (world cfg (fs ++ (Hears o 0 0 ∷ es)))) → Made1 p r (Brings o 0 0) (Ok n)
+  unfolding on_nth world
+  brought r n g cfg es s =
+      let (qs, net) = came.0 in let (fs, e, l, t) = g cfg es (came.1 cfg es s) in
+      makes_as cfg r es (fs ++ (Hears o 0 0 ∷ [])) _ n
+      (ap (λ z. on_nth cfg o 0 z (end o (world cfg (Hears o 0 0 ∷ es))).conns ++ (Hears o 0 0 ∷ [])) (s.came o ∙ net) ∙ ap (λ z. z ++ (Hears o 0 0 ∷ [])) e)
+      (length-append fs (Hears o 0 0 ∷ []) ∙ l) (subst (λ z. Shows cfg r (world cfg z)) (sym (append_assoc fs (Hears o 0 0 ∷ []) es)) t)
 
-pub answered : (cfg : m.Settings) (p q : Pair) (es : List Ev) (o : Who) (t : ℕ) → Shows cfg p (world cfg es) → Shows cfg q (world cfg (answers p o t (world cfg es) ++ es)) → Shows cfg q (world cfg (Sends o t (upto_of (by_tag t (end o (world cfg es)).conns)) cfg.size ∷ es))
-answered cfg p q es o t s a = subst (λ z. Shows cfg q (world cfg (z ++ es))) (answers_are cfg p (world cfg es) s o t) a
+  pub brings_err : (r : Pair) → Does q r (λ _. []) → Goes p r
+  brings_err r d cfg es s = (Hears o 0 0 ∷ [], d cfg (Hears o 0 0 ∷ es) (came.1 cfg es s))
+
+  pub brings_none : Seen q o x.head.to None → Made1 p q (Brings o 0 0) (Ok 1)
+  brings_none n = brought q 1 (λ cfg es h. ([], hearing_none cfg o (packet x) _ (n cfg _ h), refl, h))
+
+  module _ (v : View) (seen : Seen q o x.head.to (Some v)) where
+    pub brings_unsettled : v.settled ≡ false → Made1 p q (Brings o 0 0) (Ok 1)
+    brings_unsettled a = brought q 1 (λ cfg es h. ([], hearing_unsettled cfg o (packet x) _ v (seen cfg _ h) a, refl, h))
+
+    pub brings_other : (v.peer ≡ x.head.from → ⊥) → Made1 p q (Brings o 0 0) (Ok 1)
+    brings_other a = brought q 1 (λ cfg es h. ([], hearing_other cfg o (packet x) _ v (seen cfg _ h) a, refl, h))
+
+    module _ (s : v.settled ≡ true) (k : v.peer ≡ x.head.from) where
+      pub brings_answer : (r : Pair) → wants_answer (packet x) ≡ true → Does q r (answers q o x.head.to) → Made1 p r (Brings o 0 0) (Ok 2)
+      brings_answer r a d = brought r 2 (λ cfg es h.
+          (_, hearing_answer cfg o (packet x) _ v (seen cfg _ h) s k a, refl, subst (λ z. Shows cfg r (world cfg (z ++ (Hears o 0 0 ∷ es)))) (answers_are cfg q _ h o x.head.to) (d cfg (Hears o 0 0 ∷ es) h)))
+
+      pub brings_due : (r : Pair) → wants_answer (packet x) ≡ false → is_yes (packet x).kind ≡ true → v.opened ≡ true → Does q r (λ _. Due o x.head.to ∷ []) → Made1 p r (Brings o 0 0) (Ok 2)
+      brings_due r a b c d = brought r 2 (λ cfg es h. (_, hearing_due cfg o (packet x) _ v (seen cfg _ h) s k a b c, refl, d cfg (Hears o 0 0 ∷ es) h))
+
+      pub brings_quiet : wants_answer (packet x) ≡ false → is_yes (packet x).kind ≡ false → Made1 p q (Brings o 0 0) (Ok 1)
+      brings_quiet a b = brought q 1 (λ cfg es h. ([], hearing_quiet cfg o (packet x) _ v (seen cfg _ h) s k a b, refl, h))
+
+      pub brings_half : wants_answer (packet x) ≡ false → v.opened ≡ false → Made1 p q (Brings o 0 0) (Ok 1)
+      brings_half a b = brought q 1 (λ cfg es h. ([], hearing_half cfg o (packet x) _ v (seen cfg _ h) s k a b, refl, h))

@@ -1,6 +1,6 @@
 -- Moves one after the other, and rounds.
-use Rattle.std.proofs.Common.{◌≡◌, ℕ, zero, suc, ◌+◌, ◌-◌, ◌^◌, min, Bool, true, false, List, [], ◌∷◌, ◌++◌, length, Ok, sym, refl, ap, ◌∙◌, subst, append_assoc, append-nil, arith, length-append}
-use Rattle.std.proofs.lemmas.Bool.{cond-false, cond-true}
+use Rattle.std.proofs.Common.{◌≡◌, ℕ, zero, suc, ◌+◌, ◌-◌, ◌^◌, min, Bool, true, false, List, [], ◌∷◌, ◌++◌, length, Ok, Err, Result, is_err, sym, refl, ap, ◌∙◌, subst, append_assoc, append-nil, arith, length-append}
+use Rattle.std.proofs.lemmas.Bool.{cond-false, cond-true, false≢true}
 use Rattle.hold.specs.Drive.{drive, round_moves, speaks_in}
 use Rattle.hold.specs.Packet as m
 use Rattle.hold.specs.Self.{Brings, Clock, Self, Take, made, makes}
@@ -8,7 +8,8 @@ use Rattle.hold.specs.World.{Ev, Who, World, by_tag, end, other, world}
 use Rattle.hold.proofs.SelfMoves.{made_app}
 use Rattle.packet.specs.Sizes.{capacity}
 use Rattle.simulation.specs.Carry.{Driven, Goes, Made1, MadeAll, UpTo, driven_to}
-use Rattle.simulation.specs.Shows.{Shows, who_of}
+use Rattle.simulation.specs.Shows.{Does, Shows, who_of}
+use Rattle.party.specs.declared.Fault.{Fault}
 use Rattle.simulation.specs.Sides.{other_side}
 use Rattle.simulation.specs.declared.pair.Pair.{Pair}
 use Rattle.simulation.specs.declared.pair.Side.{Side}
@@ -17,6 +18,14 @@ use Rattle.simulation.specs.declared.pair.Side.TheVariants.{Left, Right}
 pub who_other : (s r : Side) → r ≡ other_side s → who_of r ≡ other (who_of s)
 who_other Left r e = ap who_of e
 who_other Right r e = ap who_of e
+
+-- what holds of a refusal, whichever it is
+pub on_err : {A : Type 0} (P : Result A Fault → Type 0) (r : Result A Fault) → is_err r ≡ true → ((f : Fault) → P (Err f)) → P r
+on_err P (Ok a) e g = absurd (false≢true e)
+on_err P (Err f) e g = g f
+
+pub goes_does : (p q : Pair) (fs : World → List Ev) → Does p q fs → Goes p q
+goes_does p q fs d cfg es s = (fs (world cfg es), d cfg es s)
 
 pub goes_made : (p q : Pair) (s : Self) (n : ℕ) → Made1 p q s (Ok n) → Goes p q
 goes_made p q s n h cfg es w = (makes cfg (world cfg es) s, (h cfg es w).0)

@@ -4,7 +4,7 @@ use mathlib.Core.List.{Memᴰ}
 use Rattle.hold.specs.Drive.{drive}
 use Rattle.hold.specs.Packet as m
 use Rattle.hold.specs.Self.{Self, made, makes}
-use Rattle.hold.specs.World.{Ev, Who, World, by_tag, end, other, world}
+use Rattle.hold.specs.World.{Ev, Hears, Who, World, by_tag, end, other, world}
 use Rattle.packet.specs.Packets.{packet}
 use Rattle.packet.specs.Sizes.{capacity}
 use Rattle.packet.specs.declared.packet.Packet.{Packet}
@@ -12,7 +12,7 @@ use Rattle.ledger.specs.Books.{accounts, view_of}
 use Rattle.ledger.specs.Sentence.{Account, One}
 use Rattle.ledger.specs.declared.record.View.{View}
 use Rattle.party.specs.declared.Fault.{Fault}
-use Rattle.simulation.specs.Shows.{Runs, Shows, net_of, party_of}
+use Rattle.simulation.specs.Shows.{Does, Runs, Shows, net_of, net_to, party_of}
 use Rattle.simulation.specs.declared.pair.Pair.{Pair}
 
 -- q stands for a run that goes on from p's
@@ -23,6 +23,11 @@ Goes p q = (cfg : m.Settings) (es : List Ev) → Shows cfg p (world cfg es) → 
 abbrev pub Latest : List Packet → Option Packet → Type 0
 Latest net None = net ≡ []
 Latest net (Some p) = (qs : List m.Packet) × (net_of net ≡ packet p ∷ qs)
+
+-- the latest packet came to a side and was heard
+abbrev pub HeardLatest : Pair → Pair → Who → Result Packet Fault → Type 0
+HeardLatest p q o (Ok x) = Latest (net_to o p) (Some x) × Does p q (λ _. Hears o 0 0 ∷ [])
+HeardLatest p q o (Err f) = Goes p q
 
 -- the connection of a tag, as it is to be seen
 abbrev pub Seen : Pair → Who → ℕ → Option View → Type 0

@@ -1,7 +1,7 @@
 use crate::pair::Side;
 
 /// A line of a script: a call of a user, a due moment, or a packet that the net brings.
-#[derive(Clone, Copy)]
+#[derive(Clone, Copy, PartialEq, Eq, Debug)]
 pub enum Command<'a> {
     Listen(Side, bool),
     /// With a tag that was never drawn before.
@@ -24,7 +24,7 @@ pub enum Command<'a> {
 }
 
 /// What a line was answered by.
-#[derive(Clone, Copy)]
+#[derive(Clone, Copy, PartialEq, Eq, Debug)]
 pub enum Answer {
     Done,
     /// So many bytes were given.

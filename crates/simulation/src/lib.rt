@@ -5,7 +5,7 @@ ghost use Rattle.simulation.specs.Shows.{Runs};
 
 mod carry;
 pub mod command;
-mod halves;
+pub mod half;
 mod moves;
 mod obey;
 pub mod pair;

@@ -4,12 +4,12 @@ ghost use Rattle.hold.specs.World.{Breaks, Closes, Due, Forgets, Gives, Hears, L
 ghost use Rattle.packet.specs.Agreed.{cfg_of};
 ghost use Rattle.simulation.specs.Shows.{Does, Placed, Shows, answers, net_to, sends, when_ok, who_of};
 
-use crate::halves;
-use crate::pair::{Pair, Side};
+use crate::half::Half;
+use crate::pair::{Pair, Side, Sides};
 use endpoint::{LANES, RINGS};
 use lent::bits::WORDS;
 use packet::settings::{CAPACITY, Settings};
-use party::{Fault, Party};
+use party::Fault;
 use std::alloc::Global;
 
 impl<'m> Pair<'m> {
@@ -24,10 +24,10 @@ impl<'m> Pair<'m> {
         ensures { Shows (cfg_of settings) result start }
     {
         Pair {
-            left: Party::new(heap, settings, left_memory, left_bits),
-            right: Party::new(heap, settings, right_memory, right_bits),
-            to_left: Vec::new(heap),
-            to_right: Vec::new(heap),
+            halves: Sides {
+                left: Half::new(heap, settings, left_memory, left_bits),
+                right: Half::new(heap, settings, right_memory, right_bits),
+            },
             drawn: Vec::new(heap),
         }
     }
@@ -37,10 +37,10 @@ impl<'m> Pair<'m> {
         ensures { Shows (cfg_of settings) result start }
     {
         Pair {
-            left: self.left.restart(heap, settings),
-            right: self.right.restart(heap, settings),
-            to_left: Vec::new(heap),
-            to_right: Vec::new(heap),
+            halves: Sides {
+                left: self.halves.left.restart(heap, settings),
+                right: self.halves.right.restart(heap, settings),
+            },
             drawn: Vec::new(heap),
         }
     }
@@ -48,91 +48,61 @@ impl<'m> Pair<'m> {
     pub fn listen(&mut self, side: Side, on: bool)
         ensures { Does self.old self.new (λ _. Listens (who_of side) on ∷ []) }
     {
-        match side {
-            Side::Left => self.left.listen(on),
-            Side::Right => self.right.listen(on),
-        }
+        self.halves.get_mut(side).party.listen(on)
     }
 
     pub fn open(&mut self, side: Side, tag: u64) -> Result<(), Fault>
         ensures { Does self.old self.new (λ _. when_ok (λ _. Opens (who_of side) tag ∷ []) result) }
     {
-        match side {
-            Side::Left => halves::open(&mut self.left, &mut self.to_right, &mut self.drawn, tag),
-            Side::Right => halves::open(&mut self.right, &mut self.to_left, &mut self.drawn, tag),
-        }
+        self.halves.get_mut(side).open(&mut self.drawn, tag)
     }
 
     pub fn give(&mut self, side: Side, tag: u64, bytes: &[u8]) -> Result<usize, Fault>
         ensures { Does self.old self.new (λ _. when_ok (λ n. Gives (who_of side) tag (take n bytes.now) ∷ []) result) }
     {
-        match side {
-            Side::Left => self.left.give(tag, bytes),
-            Side::Right => self.right.give(tag, bytes),
-        }
+        self.halves.get_mut(side).party.give(tag, bytes)
     }
 
     pub fn take(&mut self, side: Side, tag: u64, out: &mut [u8]) -> Result<usize, Fault>
         ensures { Does self.old self.new (λ _. when_ok (λ _. Takes (who_of side) tag (length out.old) ∷ []) result) }
     {
-        match side {
-            Side::Left => self.left.take(tag, out),
-            Side::Right => self.right.take(tag, out),
-        }
+        self.halves.get_mut(side).party.take(tag, out)
     }
 
     pub fn close(&mut self, side: Side, tag: u64) -> Result<(), Fault>
         ensures { Does self.old self.new (λ _. when_ok (λ _. Closes (who_of side) tag ∷ []) result) }
     {
-        match side {
-            Side::Left => self.left.close(tag),
-            Side::Right => self.right.close(tag),
-        }
+        self.halves.get_mut(side).party.close(tag)
     }
 
     pub fn forget(&mut self, side: Side, tag: u64) -> Result<(), Fault>
         ensures { Does self.old self.new (λ _. when_ok (λ _. Forgets (who_of side) tag ∷ []) result) }
     {
-        match side {
-            Side::Left => self.left.forget(tag),
-            Side::Right => self.right.forget(tag),
-        }
+        self.halves.get_mut(side).party.forget(tag)
     }
 
     pub fn break_off(&mut self, side: Side, tag: u64) -> Result<(), Fault>
         ensures { Does self.old self.new (λ _. when_ok (λ _. Breaks (who_of side) tag ∷ []) result) }
     {
-        match side {
-            Side::Left => halves::break_off(&mut self.left, &mut self.to_right, tag),
-            Side::Right => halves::break_off(&mut self.right, &mut self.to_left, tag),
-        }
+        self.halves.get_mut(side).break_off(tag)
     }
 
     pub fn due(&mut self, side: Side, tag: u64) -> Result<(), Fault>
         ensures { Does self.old self.new (λ _. when_ok (λ _. Due (who_of side) tag ∷ []) result) }
     {
-        match side {
-            Side::Left => halves::due(&self.left, &mut self.to_right, tag),
-            Side::Right => halves::due(&self.right, &mut self.to_left, tag),
-        }
+        self.halves.get_mut(side).due(tag)
     }
 
     pub fn answer(&mut self, side: Side, tag: u64) -> Result<(), Fault>
         ensures { Does self.old self.new (λ w. when_ok (λ _. answers self.old (who_of side) tag w) result) }
     {
-        match side {
-            Side::Left => halves::answer(&self.left, &mut self.to_right, tag),
-            Side::Right => halves::answer(&self.right, &mut self.to_left, tag),
-        }
+        self.halves.get_mut(side).answer(tag)
     }
 
     pub fn send(&mut self, side: Side, tag: u64, place: u64, most: u64) -> Result<(), Fault>
         ensures { Does self.old self.new (λ w. when_ok (λ _. sends self.old (who_of side) tag place most w) result) }
     {
-        match side {
-            Side::Left => halves::send(&self.left, &mut self.to_right, tag, place, most),
-            Side::Right => halves::send(&self.right, &mut self.to_left, tag, place, most),
-        }
+        self.halves.get_mut(side).send(tag, place, most)
     }
 
     /// The net brings a packet, by its place among all that were ever sent that way; `draws` is the tag of the connection that
@@ -141,23 +111,10 @@ impl<'m> Pair<'m> {
         ensures place { Placed (net_to (who_of side) self.old) i result }
         ensures did { Does self.old self.new (λ _. when_ok (λ k. Hears (who_of side) k draws ∷ []) result) }
     {
-        match side {
-            Side::Left => halves::hear(
-                &mut self.left,
-                &self.to_left,
-                &mut self.to_right,
-                &mut self.drawn,
-                i,
-                draws,
-            ),
-            Side::Right => halves::hear(
-                &mut self.right,
-                &self.to_right,
-                &mut self.to_left,
-                &mut self.drawn,
-                i,
-                draws,
-            ),
-        }
+        let came = self.sent_to(side);
+        let p = *came.get(i).ok_or(Fault::Unfit)?;
+        let place = came.len() - 1 - i;
+        self.halves.get_mut(side).hear(&mut self.drawn, &p, draws)?;
+        Ok(place)
     }
 }

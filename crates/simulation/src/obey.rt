@@ -10,10 +10,7 @@ use party::Fault;
 fn done(r: Result<(), Fault>) -> Result<Answer, Fault>
     ensures { result ≡ done_by r }
 {
-    match r {
-        Ok(_) => Ok(Answer::Done),
-        Err(f) => Err(f),
-    }
+    r.map(|()| Answer::Done)
 }
 
 impl<'m> Pair<'m> {
@@ -27,16 +24,10 @@ impl<'m> Pair<'m> {
                 Ok(Answer::Done)
             }
             Command::Open(side, tag) => done(self.open(side, tag)),
-            Command::Give(side, tag, bytes) => match self.give(side, tag, bytes) {
-                Ok(n) => Ok(Answer::Gave(n)),
-                Err(f) => Err(f),
-            },
+            Command::Give(side, tag, bytes) => self.give(side, tag, bytes).map(Answer::Gave),
             Command::Take(side, tag) => {
                 let mut out = [0; CAPACITY];
-                match self.take(side, tag, &mut out) {
-                    Ok(n) => Ok(Answer::Took(n)),
-                    Err(f) => Err(f),
-                }
+                self.take(side, tag, &mut out).map(Answer::Took)
             }
             Command::Close(side, tag) => done(self.close(side, tag)),
             Command::Break(side, tag) => done(self.break_off(side, tag)),
@@ -44,10 +35,7 @@ impl<'m> Pair<'m> {
             Command::Due(side, tag) => done(self.due(side, tag)),
             Command::Answer(side, tag) => done(self.answer(side, tag)),
             Command::Send(side, tag, place, most) => done(self.send(side, tag, place, most)),
-            Command::Deliver(side, i, draws) => match self.deliver(side, i, draws) {
-                Ok(k) => Ok(Answer::Heard(k)),
-                Err(f) => Err(f),
-            },
+            Command::Deliver(side, i, draws) => self.deliver(side, i, draws).map(Answer::Heard),
         }
     }
 }

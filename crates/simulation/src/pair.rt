@@ -1,10 +1,11 @@
 ghost use Rattle.std.specs.Prelude.{◌≡◌};
-ghost use Rattle.simulation.specs.Sides.{other_side};
+ghost use Rattle.std.specs.Borrow.{sem};
+ghost use Rattle.simulation.specs.Lending.{LendsSide};
+ghost use Rattle.simulation.specs.Sides.{of_side, other_side};
 
-use packet::packet::Packet;
-use party::Party;
+use crate::half::Half;
 
-#[derive(Clone, Copy)]
+#[derive(Clone, Copy, PartialEq, Eq, Debug)]
 pub enum Side {
     Left,
     Right,
@@ -21,12 +22,37 @@ impl Side {
     }
 }
 
-/// Two parties, and all that was ever sent and all tags that were ever drawn, the oldest first.
+/// One of each side.
+#[derive(Drop)]
+pub struct Sides<T> {
+    pub left: T,
+    pub right: T,
+}
+
+impl<T> Sides<T> {
+    pub fn get(&self, side: Side) -> &T
+        ensures { result.now ≡ of_side side self.now }
+    {
+        match side {
+            Side::Left => &self.left,
+            Side::Right => &self.right,
+        }
+    }
+
+    pub fn get_mut(&mut self, side: Side) -> &mut T
+        ensures* writes_back { sem 𝓛 (LendsSide T.row self.entry side result) }
+        ensures value { result.now ≡ of_side side self.old }
+    {
+        match side {
+            Side::Left => &mut self.left,
+            Side::Right => &mut self.right,
+        }
+    }
+}
+
+/// Two halves, and all tags that were ever drawn, the oldest first.
 #[derive(Drop)]
 pub struct Pair<'m> {
-    pub left: Party<'m>,
-    pub right: Party<'m>,
-    pub to_left: Vec<Packet>,
-    pub to_right: Vec<Packet>,
+    pub halves: Sides<Half<'m>>,
     pub drawn: Vec<u64>,
 }

@@ -7,22 +7,16 @@ use ledger::book::Book;
 use packet::packet::Packet;
 
 impl<'m> Pair<'m> {
-    fn book(&self, side: Side) -> &Book
+    pub(crate) fn book(&self, side: Side) -> &Book
         ensures { result.now ≡ book_of side self.now }
     {
-        match side {
-            Side::Left => self.left.book(),
-            Side::Right => self.right.book(),
-        }
+        self.halves.get(side).party.book()
     }
 
-    fn sent_to(&self, side: Side) -> &[Packet]
+    pub(crate) fn sent_to(&self, side: Side) -> &[Packet]
         ensures { result.now ≡ sent_to side self.now }
     {
-        match side {
-            Side::Left => self.to_left.as_slice(),
-            Side::Right => self.to_right.as_slice(),
-        }
+        self.halves.get(side.other()).sent.as_slice()
     }
 }
 

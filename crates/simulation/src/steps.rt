@@ -23,7 +23,7 @@ impl<'m> Simulation<'m> {
         right_memory: &'m mut [[u8; CAPACITY]; RINGS],
         right_bits: &'m mut [[u64; WORDS]; LANES],
     ) -> Simulation<'m>
-        ensures sentence { Sentence (accounts result.pair.left.book) (accounts result.pair.right.book) }
+        ensures sentence { Sentence (accounts result.pair.halves.left.party.book) (accounts result.pair.halves.right.party.book) }
     {
         Simulation {
             pair: Pair::new(
@@ -39,7 +39,7 @@ impl<'m> Simulation<'m> {
 
     /// As a new one, over the same memory.
     pub fn restart(self, heap: Global, settings: Settings) -> Simulation<'m>
-        ensures sentence { Sentence (accounts result.pair.left.book) (accounts result.pair.right.book) }
+        ensures sentence { Sentence (accounts result.pair.halves.left.party.book) (accounts result.pair.halves.right.party.book) }
     {
         Simulation {
             pair: self.pair.restart(heap, settings),
@@ -50,7 +50,7 @@ impl<'m> Simulation<'m> {
     /// of the two users keeps the sentence.
     pub fn step(&mut self, command: Command<'_>) -> Result<Answer, Fault>
         ensures did { Does self.old.pair self.new.pair (events self.old.pair command.entry result) }
-        ensures sentence { Sentence (accounts self.new.pair.left.book) (accounts self.new.pair.right.book) }
+        ensures sentence { Sentence (accounts self.new.pair.halves.left.party.book) (accounts self.new.pair.halves.right.party.book) }
     {
         self.pair.obey(command)
     }
@@ -60,7 +60,7 @@ impl<'m> Simulation<'m> {
     /// took; afterwards all came, with the end if there is one. So no state is a dead end.
     pub fn carry(&mut self, side: Side, tag: u64) -> Result<u64, Fault>
         ensures brought { BroughtBy self.old.pair self.new.pair (who_of side) tag result }
-        ensures sentence { Sentence (accounts self.new.pair.left.book) (accounts self.new.pair.right.book) }
+        ensures sentence { Sentence (accounts self.new.pair.halves.left.party.book) (accounts self.new.pair.halves.right.party.book) }
     {
         self.pair.carry(side, tag)
     }

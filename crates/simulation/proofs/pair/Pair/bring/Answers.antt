@@ -1,76 +1,36 @@
-use Rattle.std.proofs.Common.{[], ◌∷◌, sym, refl, arith}
+use Rattle.std.proofs.Common.{sym, ⊎_elim}
 use Rattle.std.proofs.lemmas.Bool.{not-true}
-use Rattle.hold.specs.World.{Due, Hears, by_tag, end, world}
-use Rattle.packet.specs.Packets.{packet}
+use Rattle.hold.specs.Self.{Brings}
+use Rattle.simulation.specs.Carry.{Made1}
 use Rattle.simulation.specs.Shows.{who_of}
-use Rattle.simulation.proofs.Moving.{answered, brought, hearing_answer, hearing_due, hearing_half, hearing_none, hearing_other, hearing_quiet, hearing_unsettled, not-not}
+use Rattle.simulation.proofs.Moving.{brings_answer, brings_due, brings_err, brings_half, brings_none, brings_other, brings_quiet, brings_unsettled, not-not}
+use Rattle.simulation.proofs.RoundsMade.{on_err}
 use Rattle.simulation.proofs.pair.Pair.bring.Goals as goal
+use Rattle.simulation.proofs.pair.Pair.bring.Goals.{else-is_yes-via-then-is_yes+else-v, else-is_yes-via-else-is_yes}
 
-pub returns-in_default-look : goal.returns-in_default-look
-returns-in_default-look c = record {
-  few = omega arith;
-  made = λ cfg es s.
-      let o = who_of c.args.side in let k = packet c.in-Some.p in let w = world cfg (Hears o 0 0 ∷ es) in let cs = (end o w).conns in
-      let h = c.in_default-hear_latest.ensures cfg es s in
-      brought cfg c.args.self.now c.hear_latest.new.self o es k s c.in-Some.ensures [] 1 (hearing_none cfg o k (by_tag k.to cs) (c.in_default-look.ensures cfg w h)) refl h;
-}
+pub returns-in_err-p-clause-made : goal.returns-in_err-p-clause-made
+returns-in_err-p-clause-made c = on_err (Made1 c.args.self.now c.hear_latest.new.self (Brings (who_of c.args.side) 0 0)) _ c.from_residual.ensures.0 (λ _. c.in_err-p.ensures)
 
-pub returns-then-not-v : goal.returns-then-not-v
-returns-then-not-v c = record {
-  few = omega arith;
-  made = λ cfg es s.
-      let o = who_of c.args.side in let k = packet c.in-Some.p in let w = world cfg (Hears o 0 0 ∷ es) in let cs = (end o w).conns in
-      let h = c.in_default-hear_latest.ensures cfg es s in
-      let v = c.in-Some-look.v in let e = c.in-Some-look.ensures cfg w h in
-      brought cfg c.args.self.now c.hear_latest.new.self o es k s c.in-Some.ensures [] 1 (hearing_unsettled cfg o k cs v e (not-true _ c.if-not-v.true)) refl h;
-}
+pub returns-in_default-clause-made : goal.returns-in_default-clause-made
+returns-in_default-clause-made c = brings_none c.args.self.now c.hear_latest.new.self (who_of c.args.side) c.in_ok-p.p c.in_ok-p.ensures c.in_default.ensures
 
-pub returns-then-v-p : goal.returns-then-v-p
-returns-then-v-p c = record {
-  few = omega arith;
-  made = λ cfg es s.
-      let o = who_of c.args.side in let k = packet c.in-Some.p in let w = world cfg (Hears o 0 0 ∷ es) in let cs = (end o w).conns in
-      let h = c.in_default-hear_latest.ensures cfg es s in
-      let v = c.in-Some-look.v in let e = c.in-Some-look.ensures cfg w h in
-      brought cfg c.args.self.now c.hear_latest.new.self o es k s c.in-Some.ensures [] 1 (hearing_other cfg o k cs v e c.if-v-p.true) refl h;
-}
+pub returns-then-not-v-clause-made : goal.returns-then-not-v-clause-made
+returns-then-not-v-clause-made c = ⊎_elim (λ a. brings_unsettled c.args.self.now c.hear_latest.new.self (who_of c.args.side) c.in_ok-p.p c.in_ok-p.ensures c.in-Some.v c.in-Some.ensures (not-true _ a)) (λ b. brings_other c.args.self.now c.hear_latest.new.self (who_of c.args.side) c.in_ok-p.p c.in_ok-p.ensures c.in-Some.v c.in-Some.ensures b.1) c.then-not-v.either
 
-pub returns-in-Ok : goal.returns-in-Ok
-returns-in-Ok c = record {
-  few = omega arith;
-  made = λ cfg es s.
-      let o = who_of c.args.side in let k = packet c.in-Some.p in let w = world cfg (Hears o 0 0 ∷ es) in let cs = (end o w).conns in
-      let h = c.in_default-hear_latest.ensures cfg es s in
-      let v = c.in-Some-look.v in let e = c.in-Some-look.ensures cfg w h in
-      brought cfg c.args.self.now c.answer.new.self o es k s c.in-Some.ensures _ 2 (hearing_answer cfg o k cs v e (not-not _ c.if-not-v.false) c.if-v-p.false (sym c.if-wants_answer.ensures)) refl (answered cfg c.hear_latest.new.self c.answer.new.self (Hears o 0 0 ∷ es) o k.to h (c.in-Ok.ensures cfg (Hears o 0 0 ∷ es) h));
-}
+pub returns-in_ok-answer-clause-made : goal.returns-in_ok-answer-clause-made
+returns-in_ok-answer-clause-made c = brings_answer c.args.self.now c.hear_latest.new.self (who_of c.args.side) c.in_ok-p.p c.in_ok-p.ensures c.in-Some.v c.in-Some.ensures (not-not _ c.if-not-v.false) c.if-v-p.false c.answer.new.self (sym c.if-wants_answer.ensures) c.in_ok-answer.ensures
 
-pub returns-then-not-is_yes : goal.returns-then-not-is_yes
-returns-then-not-is_yes c = record {
-  few = omega arith;
-  made = λ cfg es s.
-      let o = who_of c.args.side in let k = packet c.in-Some.p in let w = world cfg (Hears o 0 0 ∷ es) in let cs = (end o w).conns in
-      let h = c.in_default-hear_latest.ensures cfg es s in
-      let v = c.in-Some-look.v in let e = c.in-Some-look.ensures cfg w h in
-      brought cfg c.args.self.now c.hear_latest.new.self o es k s c.in-Some.ensures [] 1 (hearing_quiet cfg o k cs v e (not-not _ c.if-not-v.false) c.if-v-p.false (sym c.if-wants_answer.ensures) (sym c.if-not-is_yes.ensures)) refl h;
-}
+pub returns-in_err-answer-clause-made : goal.returns-in_err-answer-clause-made
+returns-in_err-answer-clause-made c = on_err (Made1 c.args.self.now c.answer.new.self (Brings (who_of c.args.side) 0 0)) _ c.from_residual-in_err-answer.ensures.0 (λ _. brings_err c.args.self.now c.hear_latest.new.self (who_of c.args.side) c.in_ok-p.p c.in_ok-p.ensures c.answer.new.self c.in_err-answer.ensures)
 
-pub returns-then-not-v-2 : goal.returns-then-not-v-2
-returns-then-not-v-2 c = record {
-  few = omega arith;
-  made = λ cfg es s.
-      let o = who_of c.args.side in let k = packet c.in-Some.p in let w = world cfg (Hears o 0 0 ∷ es) in let cs = (end o w).conns in
-      let h = c.in_default-hear_latest.ensures cfg es s in
-      let v = c.in-Some-look.v in let e = c.in-Some-look.ensures cfg w h in
-      brought cfg c.args.self.now c.hear_latest.new.self o es k s c.in-Some.ensures [] 1 (hearing_half cfg o k cs v e (not-not _ c.if-not-v.false) c.if-v-p.false (sym c.if-wants_answer.ensures) (not-true _ c.if-not-v-2.true)) refl h;
-}
+pub returns-in_ok-due-clause-made : goal.returns-in_ok-due-clause-made
+returns-in_ok-due-clause-made c = brings_due c.args.self.now c.hear_latest.new.self (who_of c.args.side) c.in_ok-p.p c.in_ok-p.ensures c.in-Some.v c.in-Some.ensures (not-not _ c.if-not-v.false) c.if-v-p.false c.due.new.self (sym c.if-wants_answer.ensures) (sym c.if-is_yes.ensures) c.if-v.true c.in_ok-due.ensures
 
-pub returns-in-Ok-due : goal.returns-in-Ok-due
-returns-in-Ok-due c = record {
-  few = omega arith;
-  made = λ cfg es s.
-      let o = who_of c.args.side in let k = packet c.in-Some.p in let w = world cfg (Hears o 0 0 ∷ es) in let cs = (end o w).conns in
-      let h = c.in_default-hear_latest.ensures cfg es s in
-      let v = c.in-Some-look.v in let e = c.in-Some-look.ensures cfg w h in
-      brought cfg c.args.self.now c.due.new.self o es k s c.in-Some.ensures (Due o k.to ∷ []) 2 (hearing_due cfg o k cs v e (not-not _ c.if-not-v.false) c.if-v-p.false (sym c.if-wants_answer.ensures) (sym c.if-not-is_yes.ensures) (not-not _ c.if-not-v-2.false)) refl (c.in-Ok-due.ensures cfg (Hears o 0 0 ∷ es) h);
-}
+pub returns-in_err-due-clause-made : goal.returns-in_err-due-clause-made
+returns-in_err-due-clause-made c = on_err (Made1 c.args.self.now c.due.new.self (Brings (who_of c.args.side) 0 0)) _ c.from_residual-in_err-due.ensures.0 (λ _. brings_err c.args.self.now c.hear_latest.new.self (who_of c.args.side) c.in_ok-p.p c.in_ok-p.ensures c.due.new.self c.in_err-due.ensures)
+
+pub returns-else-is_yes-clause-made : goal.returns-else-is_yes-clause-made
+returns-else-is_yes-clause-made c = elim c.else-is_yes.branch [
+  | else-is_yes-via-then-is_yes+else-v w ↦ brings_half c.args.self.now c.hear_latest.new.self (who_of c.args.side) c.in_ok-p.p c.in_ok-p.ensures c.in-Some.v c.in-Some.ensures (not-not _ c.if-not-v.false) c.if-v-p.false (sym c.if-wants_answer.ensures) w.if-v.false
+  | else-is_yes-via-else-is_yes w ↦ brings_quiet c.args.self.now c.hear_latest.new.self (who_of c.args.side) c.in_ok-p.p c.in_ok-p.ensures c.in-Some.v c.in-Some.ensures (not-not _ c.if-not-v.false) c.if-v-p.false (sym c.if-wants_answer.ensures) (sym w.if-is_yes.ensures)
+]

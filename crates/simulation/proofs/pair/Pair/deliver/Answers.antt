@@ -1,16 +1,28 @@
-use Rattle.std.proofs.Common.{refl, ap}
-use Rattle.simulation.specs.Shows.{who_of}
-use Rattle.simulation.proofs.BothSides.{inn_as, left_does, placed_left, placed_right, right_does}
+use Rattle.std.proofs.Common.{◌≡◌, [], ◌∷◌, length, ◌-◌, Some, Ok, Err, ◌∙◌, ap, refl, arith}
+use Rattle.std.proofs.lemmas.Option.{slice_get_read}
+use Rattle.std.specs.List.{slice_get}
+use Rattle.hold.specs.World.{Hears}
+use Rattle.simulation.specs.Shows.{Does, when_ok, who_of}
+use Rattle.simulation.specs.Sides.{with_side}
+use Rattle.simulation.proofs.BothSides.{came_is, delivered}
+use Rattle.simulation.proofs.RoundsMade.{on_err}
 use Rattle.simulation.proofs.pair.Pair.deliver.Goals as goal
 
-pub returns-in-Left : goal.returns-in-Left
-returns-in-Left c = record {
-  place = placed_left c.args.self.now (who_of c.args.side) c.args.i c.hear.result (ap who_of c.in-Left.is) _ c.deref.ensures.value c.hear.ensures.place;
-  did = left_does c.args.self.now _ _ (who_of c.args.side) (ap who_of c.in-Left.is) (inn_as _ _ _ _ _ _ _ _ _ c.deref.ensures.value c.hear.ensures.half) refl refl;
-}
+pub returns : goal.returns
+returns c =
+    let e = c.sent_to-came.ensures ∙ came_is c.args.self.now c.args.side in
+    let (l, h) = rw c.in_ok-p.ensures.ok_part at (c.get.ensures.lookup.3) in
+    let x = c.in_ok-p.field-0.now in
+    let at : slice_get c.sent_to-came.result.now c.args.i ≡ Some x = slice_get_read _ _ _ _ refl l (h x) in
+    record {
+      place = (omega (arith, l, ap length e), ap (λ z. length z - 1 - c.args.i) e);
+      did = delivered c.args.self.now c.args.side _ _ _ c.sent_to-came.result.now c.args.i c.args.draws x (Ok tt) c.get_mut.ensures.value e at c.in_ok-hear.ensures;
+    }
 
-pub returns-in-Right : goal.returns-in-Right
-returns-in-Right c = record {
-  place = placed_right c.args.self.now (who_of c.args.side) c.args.i c.hear-in-Right.result (ap who_of c.in-Right.is) _ c.deref-in-Right.ensures.value c.hear-in-Right.ensures.place;
-  did = right_does c.args.self.now _ _ (who_of c.args.side) (ap who_of c.in-Right.is) (inn_as _ _ _ _ _ _ _ _ _ c.deref-in-Right.ensures.value c.hear-in-Right.ensures.half) refl refl;
-}
+pub returns-in_err-hear-clause-did : goal.returns-in_err-hear-clause-did
+returns-in_err-hear-clause-did c =
+    let (l, h) = rw c.in_ok-p.ensures.ok_part at (c.get.ensures.lookup.3) in
+    let x = c.in_ok-p.field-0.now in
+    let at : slice_get c.sent_to-came.result.now c.args.i ≡ Some x = slice_get_read _ _ _ _ refl l (h x) in
+    on_err (λ r. Does c.args.self.now (record { halves = with_side c.args.side c.args.self.now.halves c.hear.new.self; drawn = c.hear.new.drawn }) (λ _. when_ok (λ k. Hears (who_of c.args.side) k c.args.draws ∷ []) r)) _ c.from_residual-in_err-hear.ensures.0
+    (λ _. delivered c.args.self.now c.args.side _ _ c.hear.new.drawn c.sent_to-came.result.now c.args.i c.args.draws x (Err c.in_err-hear.field-0.0) c.get_mut.ensures.value (c.sent_to-came.ensures ∙ came_is c.args.self.now c.args.side) at c.in_err-hear.ensures)

@@ -1,10 +1,5 @@
-use Rattle.std.proofs.Common.{vec_items, refl, ap}
-use Rattle.simulation.specs.Shows.{who_of}
-use Rattle.simulation.proofs.BothSides.{left_does, right_does}
+use Rattle.simulation.proofs.BothSides.{moved}
 use Rattle.simulation.proofs.pair.Pair.open.Goals as goal
 
-pub returns-in-Left : goal.returns-in-Left
-returns-in-Left c = left_does c.args.self.now _ _ (who_of c.args.side) (ap who_of c.in-Left.is) (c.open.ensures (vec_items c.args.self.now.to_left)) refl refl
-
-pub returns-in-Right : goal.returns-in-Right
-returns-in-Right c = right_does c.args.self.now _ _ (who_of c.args.side) (ap who_of c.in-Right.is) (c.open-in-Right.ensures (vec_items c.args.self.now.to_right)) refl refl
+pub returns : goal.returns
+returns c = moved c.args.self.now c.args.side _ _ _ _ c.get_mut.ensures.value (c.open.ensures _)
