@@ -1,10 +1,11 @@
-use Rattle.party.proofs.Views.{view_is}
+use Rattle.party.proofs.Views.{view_is, known}
 use Rattle.party.proofs.look.view.Goals as goal
 
 pub returns : goal.returns
 returns c cfg mem d s =
     let e = view_is cfg mem c.args.c.now d s in
     let a = c.is_asked.ensures in
+    let p = known c.is_asked.result c.args.c.now.pairing.theirs in
     let b = c.speaks.ensures in
     let h = c.is_said.ensures in
     let o = c.owes.ensures cfg mem d s in
