@@ -85,6 +85,7 @@ impl Record {
         ensures { HasRoom tag (length bytes.now) self.old → account self.new ≡ gave tag bytes.now (account self.old) }
     {
         if self.tag == tag {
+            // There is memory, so it cannot fail.
             let _ = self.given.extend_from_slice(bytes);
         }
     }
@@ -94,6 +95,7 @@ impl Record {
         ensures { HasRoom tag (length bytes.now) self.old → account self.new ≡ took tag bytes.now (account self.old) }
     {
         if self.tag == tag {
+            // There is memory, so it cannot fail.
             let _ = self.taken.extend_from_slice(bytes);
         }
     }
