@@ -1,8 +1,9 @@
 -- What the code sees and does is what a move of the model makes.
-use Rattle.std.proofs.Common.{◌≡◌, ℕ, zero, suc, ◌+◌, ◌-◌, ◌<◌, Bool, true, false, not, ◌&&◌, ◌||◌, eqb, ltb, List, [], ◌∷◌, ◌++◌, length, get_or, take, Some, None, sym, refl, ap, ◌∙◌, subst, append_assoc, arith, length-append}
+use Rattle.std.proofs.Common.{◌≡◌, ℕ, zero, suc, ◌+◌, ◌-◌, ◌<◌, Bool, true, false, cond, not, ◌&&◌, ◌||◌, eqb, ltb, List, [], ◌∷◌, ◌++◌, length, get_or, take, Some, None, Option, sym, refl, ap, ◌∙◌, subst, append_assoc, arith, length-append}
 use Rattle.std.proofs.lemmas.List.{take_all, take_more}
-use Rattle.std.proofs.lemmas.Bool.{and_from, and_right, cond-false, cond-true, eq-eqb, ne_eqb}
+use Rattle.std.proofs.lemmas.Bool.{and_from, and_right, not-true, eqb-true, cond-false, cond-true, eq-eqb, ne_eqb}
 use Rattle.std.proofs.lemmas.Bool.Decides.{nat_tests}
+use Rattle.std.specs.Option.{option_eq}
 use Rattle.hold.specs.Code.{has_bytes, is_text, owes, wants_answer}
 use Rattle.hold.specs.Conn.{Asked, Conn, Gone, Half, Open, Phase}
 use Rattle.hold.specs.Drive.{speaks_in}
@@ -15,7 +16,7 @@ use Rattle.packet.specs.Packets.{kind_of, packet}
 use Rattle.packet.specs.declared.packet.Kind.{Kind}
 use Rattle.packet.specs.declared.packet.Packet.{Packet}
 use Rattle.endpoint.specs.Saying.{upto_of}
-use Rattle.ledger.specs.Books.{view_of}
+use Rattle.ledger.specs.Books.{peer_of, view_of}
 use Rattle.ledger.specs.declared.record.View.{View}
 use Rattle.simulation.specs.Shows.{Shows, answers, net_of, net_to}
 use Rattle.simulation.specs.declared.pair.Pair.{Pair}
@@ -91,6 +92,23 @@ clock_some o t cs e = go (by_tag t cs) refl e
 pub makes_as : (cfg : m.Settings) (q : Pair) (es fs gs : List Ev) (n : ℕ) → gs ≡ fs → length fs ≡ n → Shows cfg q (world cfg (fs ++ es)) → Shows cfg q (world cfg (gs ++ es)) × (length gs ≡ n)
 makes_as cfg q es fs gs n e l s = (subst (λ z. Shows cfg q (world cfg (z ++ es))) (sym e) s, ap length e ∙ l)
 
+-- the other's tag, where it is known
+pub peer_parts : (b : Bool) (x t : ℕ) → cond b None (Some x) ≡ Some t → (not b ≡ true) × (x ≡ t)
+peer_parts true x t e = absurd (let z : ◌≡◌ {A = ℕ} 0 1 = cc in omega arith)
+peer_parts false x t e = (refl, cc)
+
+peer_is-not : (b : Bool) (x t : ℕ) → (cond b None (Some x) ≡ Some t → ⊥) → (not b && eqb x t) ≡ false
+peer_is-not true x t n = refl
+peer_is-not false x t n = ne_eqb x t (λ e. n (ap Some e))
+
+-- what a test of it tells
+pub known_is : (o : Option ℕ) (t : ℕ) → false ≡ not (option_eq eqb o (Some t)) → o ≡ Some t
+known_is None t e = false_true false refl e
+known_is (Some x) t e = ap Some (eqb-true x t (not-not _ (sym e)))
+
+pub known-not : (o : Option ℕ) (t : ℕ) → true ≡ not (option_eq eqb o (Some t)) → o ≡ Some t → ⊥
+known-not o t e q = false_true _ (not-true _ (sym e)) (ap (λ z. option_eq eqb z (Some t)) q ∙ eq-eqb t t refl)
+
 -- what the connection that a packet was for says, as it is seen after the hearing
 module _ (cfg : m.Settings) (o : Who) (k : m.Packet) where
   pub hearing_none : (f : Found) → None ≡ view_of f → on_hearing cfg o k f ≡ []
@@ -99,34 +117,31 @@ module _ (cfg : m.Settings) (o : Who) (k : m.Packet) where
 
   module _ (cs : List Conn) (v : View) (e : Some v ≡ view_of (by_tag k.to cs)) where
     -- by cases of what was found
-    found : (fs : List Ev) → ((c : Conn) → c.mine ≡ k.to → v.settled ≡ not (is_asked c.phase) → v.peer ≡ c.theirs → v.opened ≡ is_open c.phase → by_tag k.to cs ≡ There c → on_hearing cfg o k (There c) ≡ fs) → on_hearing cfg o k (by_tag k.to cs) ≡ fs
+    found : (fs : List Ev) → ((c : Conn) → c.mine ≡ k.to → v.peer ≡ peer_of c → v.opened ≡ is_open c.phase → by_tag k.to cs ≡ There c → on_hearing cfg o k (There c) ≡ fs) → on_hearing cfg o k (by_tag k.to cs) ≡ fs
     found fs g = go (by_tag k.to cs) refl e
       where
         go : (f : Found) → by_tag k.to cs ≡ f → Some v ≡ view_of f → on_hearing cfg o k f ≡ fs
         go NotThere q i = absurd (let z : ◌≡◌ {A = ℕ} 0 1 = cc in omega arith)
-        go (There c) q i = let a : v.settled ≡ not (is_asked c.phase) = cc in let b : v.peer ≡ c.theirs = cc in let d : v.opened ≡ is_open c.phase = cc in g c (by_tag_mem k.to cs c q).1 a b d q
+        go (There c) q i = let a : v.peer ≡ peer_of c = cc in let d : v.opened ≡ is_open c.phase = cc in g c (by_tag_mem k.to cs c q).1 a d q
 
-    pub hearing_unsettled : v.settled ≡ false → on_hearing cfg o k (by_tag k.to cs) ≡ []
-    hearing_unsettled h = found [] (λ c _ a _ _ _. cond-false _ _ _ (ap (λ z. z && eqb c.theirs k.from) (sym a ∙ h)))
+    pub hearing_other : (v.peer ≡ Some k.from → ⊥) → on_hearing cfg o k (by_tag k.to cs) ≡ []
+    hearing_other h = found [] (λ c _ a _ _. cond-false _ _ _ (peer_is-not (is_asked c.phase) c.theirs k.from (λ z. h (a ∙ z))))
 
-    pub hearing_other : (v.peer ≡ k.from → ⊥) → on_hearing cfg o k (by_tag k.to cs) ≡ []
-    hearing_other h = found [] (λ c _ _ b _ _. cond-false _ _ _ (and_right (not (is_asked c.phase)) _ (ne_eqb c.theirs k.from (λ z. h (b ∙ z)))))
-
-    module _ (s : v.settled ≡ true) (p : v.peer ≡ k.from) where
-      for_it : (c : Conn) → v.settled ≡ not (is_asked c.phase) → v.peer ≡ c.theirs → (not (is_asked c.phase) && eqb c.theirs k.from) ≡ true
-      for_it c a b = and_from _ _ (sym a ∙ s) (eq-eqb _ _ (sym b ∙ p))
+    module _ (p : v.peer ≡ Some k.from) where
+      for_it : (c : Conn) → v.peer ≡ peer_of c → (not (is_asked c.phase) && eqb c.theirs k.from) ≡ true
+      for_it c a = let (x, y) = peer_parts (is_asked c.phase) c.theirs k.from (sym a ∙ p) in and_from _ _ x (eq-eqb _ _ y)
 
       pub hearing_answer : wants_answer k ≡ true → on_hearing cfg o k (by_tag k.to cs) ≡ Sends o k.to (upto_of (by_tag k.to cs)) cfg.size ∷ []
-      hearing_answer w = found _ (λ c m a b _ q. cond-true _ _ _ (for_it c a b) ∙ cond-true _ _ _ w ∙ ap (λ z. Sends o z c.upto cfg.size ∷ []) m ∙ ap (λ f. Sends o k.to (upto_of f) cfg.size ∷ []) (sym q))
+      hearing_answer w = found _ (λ c m a _ q. cond-true _ _ _ (for_it c a) ∙ cond-true _ _ _ w ∙ ap (λ z. Sends o z c.upto cfg.size ∷ []) m ∙ ap (λ f. Sends o k.to (upto_of f) cfg.size ∷ []) (sym q))
 
       pub hearing_quiet : wants_answer k ≡ false → is_yes k.kind ≡ false → on_hearing cfg o k (by_tag k.to cs) ≡ []
-      hearing_quiet w y = found [] (λ c m a b d _. cond-true _ _ _ (for_it c a b) ∙ cond-false _ _ _ w ∙ cond-false _ _ _ (ap (λ z. z && is_open c.phase) y))
+      hearing_quiet w y = found [] (λ c m a d _. cond-true _ _ _ (for_it c a) ∙ cond-false _ _ _ w ∙ cond-false _ _ _ (ap (λ z. z && is_open c.phase) y))
 
       pub hearing_half : wants_answer k ≡ false → v.opened ≡ false → on_hearing cfg o k (by_tag k.to cs) ≡ []
-      hearing_half w y = found [] (λ c m a b d _. cond-true _ _ _ (for_it c a b) ∙ cond-false _ _ _ w ∙ cond-false _ _ _ (and_right (is_yes k.kind) _ (sym d ∙ y)))
+      hearing_half w y = found [] (λ c m a d _. cond-true _ _ _ (for_it c a) ∙ cond-false _ _ _ w ∙ cond-false _ _ _ (and_right (is_yes k.kind) _ (sym d ∙ y)))
 
       pub hearing_due : wants_answer k ≡ false → is_yes k.kind ≡ true → v.opened ≡ true → on_hearing cfg o k (by_tag k.to cs) ≡ Due o k.to ∷ []
-      hearing_due w y z = found _ (λ c m a b d _. cond-true _ _ _ (for_it c a b) ∙ cond-false _ _ _ w ∙ cond-true _ _ _ (and_from _ _ y (sym d ∙ z)) ∙ ap (λ u. Due o u ∷ []) m)
+      hearing_due w y z = found _ (λ c m a d _. cond-true _ _ _ (for_it c a) ∙ cond-false _ _ _ w ∙ cond-true _ _ _ (and_from _ _ y (sym d ∙ z)) ∙ ap (λ u. Due o u ∷ []) m)
 
 shows_net : (cfg : m.Settings) (p : Pair) (w : World) → Shows cfg p w → (o : Who) → coming_to o w ≡ net_of (net_to o p)
 shows_net cfg p w s L = s.to_l

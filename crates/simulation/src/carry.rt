@@ -136,10 +136,7 @@ impl<'m> Pair<'m> {
         let Some(v) = self.look(side, p.head.to) else {
             return Ok(1);
         };
-        if !v.settled {
-            return Ok(1);
-        }
-        if v.peer != p.head.from {
+        if v.peer != Some(p.head.from) {
             return Ok(1);
         }
         if wants_answer(&p) {
@@ -208,19 +205,16 @@ impl<'m> Pair<'m> {
         let Some(c) = self.look(side, tag) else {
             return Err(Fault::Refused(Refusal::NotThere));
         };
-        let Some(d) = self.look(side.other(), c.peer) else {
+        let Some(peer) = c.peer else {
             return Err(Fault::Refused(Refusal::NotThere));
         };
-        if !c.settled {
-            return Err(Fault::Unfit);
-        }
-        if !d.settled {
-            return Err(Fault::Unfit);
-        }
-        if d.peer != tag {
+        let Some(d) = self.look(side.other(), peer) else {
+            return Err(Fault::Refused(Refusal::NotThere));
+        };
+        if d.peer != Some(tag) {
             return Err(Fault::Unfit);
         }
         let most = d.given.saturating_sub(c.arrived).saturating_add(2);
-        self.rounds(side, tag, c.peer, most)
+        self.rounds(side, tag, peer, most)
     }
 }
