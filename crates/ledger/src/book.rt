@@ -1,6 +1,6 @@
 ghost use Rattle.std.specs.Prelude.{◌≡◌, [], ◌∷◌, map, length, OnOk};
 ghost use Rattle.ledger.specs.Books.{accounts};
-ghost use Rattle.ledger.specs.Ready.{Ready};
+ghost use Rattle.ledger.specs.Ready.{Ready, RoomToGive, RoomToTake};
 ghost use Rattle.ledger.specs.Room.{RoomFor};
 ghost use Rattle.ledger.specs.Tells.{begun, gave, took};
 
@@ -44,7 +44,7 @@ impl Book {
 
     /// Bytes that a user gave, for which there is memory.
     pub fn give(&mut self, tag: u64, bytes: &[u8])
-        ensures { Ready tag (length bytes.now) self.old → accounts self.new ≡ map (gave tag bytes.now) (accounts self.old) }
+        ensures { RoomToGive tag (length bytes.now) self.old → accounts self.new ≡ map (gave tag bytes.now) (accounts self.old) }
     {
         for record in self.records.iter_mut() {
             record.give(tag, bytes);
@@ -53,7 +53,7 @@ impl Book {
 
     /// Bytes that a user was given, for which there is memory.
     pub fn take(&mut self, tag: u64, bytes: &[u8])
-        ensures { Ready tag (length bytes.now) self.old → accounts self.new ≡ map (took tag bytes.now) (accounts self.old) }
+        ensures { RoomToTake tag (length bytes.now) self.old → accounts self.new ≡ map (took tag bytes.now) (accounts self.old) }
     {
         for record in self.records.iter_mut() {
             record.take(tag, bytes);

@@ -1,6 +1,6 @@
 ghost use Rattle.std.specs.Prelude.{◌≡◌, length, OnOk};
 ghost use Rattle.ledger.specs.Books.{account, noted};
-ghost use Rattle.ledger.specs.Ready.{HasRoom};
+ghost use Rattle.ledger.specs.Ready.{GivenRoom, TakenRoom};
 ghost use Rattle.ledger.specs.Tells.{begun, gave, took};
 
 use std::alloc::{AllocError, Global};
@@ -71,7 +71,7 @@ impl Record {
     /// Finds memory for so many bytes given and taken, if the tag is its own.
     pub(crate) fn reserve(&mut self, tag: u64, bytes: usize) -> Result<(), AllocError>
         ensures same { account self.new ≡ account self.old }
-        ensures ready { OnOk result (HasRoom tag bytes self.new) }
+        ensures ready { OnOk result (GivenRoom tag bytes self.new × TakenRoom tag bytes self.new) }
     {
         if self.tag == tag {
             self.given.reserve(bytes)?;
@@ -82,7 +82,7 @@ impl Record {
 
     /// Bytes that the user of a tag gave; where the tag is its own, there is memory for them.
     pub(crate) fn give(&mut self, tag: u64, bytes: &[u8])
-        ensures { HasRoom tag (length bytes.now) self.old → account self.new ≡ gave tag bytes.now (account self.old) }
+        ensures { GivenRoom tag (length bytes.now) self.old → account self.new ≡ gave tag bytes.now (account self.old) }
     {
         if self.tag == tag {
             // There is memory, so it cannot fail.
@@ -92,7 +92,7 @@ impl Record {
 
     /// Bytes that the user of a tag was given; where the tag is its own, there is memory for them.
     pub(crate) fn take(&mut self, tag: u64, bytes: &[u8])
-        ensures { HasRoom tag (length bytes.now) self.old → account self.new ≡ took tag bytes.now (account self.old) }
+        ensures { TakenRoom tag (length bytes.now) self.old → account self.new ≡ took tag bytes.now (account self.old) }
     {
         if self.tag == tag {
             // There is memory, so it cannot fail.

@@ -20,7 +20,7 @@ use Rattle.endpoint.specs.Steps as E
 use Rattle.endpoint.specs.declared.Endpoint.{Endpoint}
 use Rattle.ledger.specs.Books.{Keeps, Looked, Met, accounts, accounts_of, view_of}
 use Rattle.ledger.specs.Tells.{Tell, begun, gave, took}
-use Rattle.ledger.specs.Ready.{HasRoom, Ready}
+use Rattle.ledger.specs.Ready.{GivenRoom, TakenRoom, RoomToGive, RoomToTake}
 use Rattle.ledger.specs.declared.book.Book.{Book}
 use Rattle.ledger.specs.declared.record.View.{View}
 use Rattle.ledger.proofs.Kept.{keeps_close, keeps_gone, keeps_gave, keeps_took, keeps_opened, keeps_heard}
@@ -36,8 +36,11 @@ some_none : {v : View} → Some v ≡ None → ⊥
 some_none e = let z : ◌≡◌ {A = ℕ} 0 1 = cc in omega arith
 
 -- memory for fewer bytes
-pub ready_less : (t n m : ℕ) (x : Book) → m ≤ n → Ready t n x → Ready t m x
-ready_less t n m x l r = record { records = r.records; bytes = All-weaker (HasRoom t n) (HasRoom t m) (λ z h e. let (g, k) = h e in (omega arith, omega arith)) _ r.bytes }
+pub less_to_give : (t n m : ℕ) (x : Book) → m ≤ n → RoomToGive t n x → RoomToGive t m x
+less_to_give t n m x l r = All-weaker (GivenRoom t n) (GivenRoom t m) (λ z h e. let g = h e in omega arith) _ r
+
+pub less_to_take : (t n m : ℕ) (x : Book) → m ≤ n → RoomToTake t n x → RoomToTake t m x
+less_to_take t n m x l r = All-weaker (TakenRoom t n) (TakenRoom t m) (λ z h e. let g = h e in omega arith) _ r
 
 -- what goes out while nothing else happens
 pub says_acts : (p : Party) (out : List m.Packet) (next : Who → World → World) → ((o : Who) (w : World) → Stands p.end (end o w) → After p.end out o w (next o w)) → ((o : Who) (w : World) → (end o (next o w)).conns ≡ (end o w).conns) → Moves p p out next

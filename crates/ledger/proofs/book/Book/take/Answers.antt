@@ -7,4 +7,4 @@ pub loop-record-preserved : goal.loop-record-preserved
 loop-record-preserved c = writes_more _ _ _ _ _ _ c.record-item.result c.loop-record.invariant c.loop-record.auto.record-items c.loop-record-test.true c.take.ensures
 
 pub returns : goal.returns
-returns c r = writes_all _ _ _ _ _ _ c.loop-record.invariant c.deref_mut-record-items.ensures.value c.loop-record-test.false r.bytes _ (with_items_is c.args.self.now.records c.loop-record.record-items (omega arith))
+returns c r = writes_all _ _ _ _ _ _ c.loop-record.invariant c.deref_mut-record-items.ensures.value c.loop-record-test.false r _ (with_items_is c.args.self.now.records c.loop-record.record-items (omega arith))
