@@ -2,5 +2,4 @@ pub mod Sentences
 pub mod Looks
 pub mod Steps
 pub mod Written
-pub mod Accounts
 pub mod Kept

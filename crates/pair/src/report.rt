@@ -1,5 +1,4 @@
 use ledger::book::Book;
-use ledger::record::Entry;
 use packet::packet::{Kind, Packet};
 use text::data::encode;
 
@@ -24,7 +23,7 @@ fn print_packet(rt: &HostRuntime, to: &str, number: usize, p: &Packet) -> anyhow
     let (from, tag) = (p.head.from, p.head.to);
     match p.head.kind {
         Kind::Text => {
-            let text = word(rt, &p.text[0..p.count.min(1024)])?;
+            let text = word(rt, &p.text[..p.count.min(1024)])?;
             let (place, upto, edge) = (p.head.place, p.head.upto, p.head.edge);
             let last = if p.head.last { " last" } else { "" };
             let all = if p.head.all { " all" } else { "" };
@@ -32,7 +31,9 @@ fn print_packet(rt: &HostRuntime, to: &str, number: usize, p: &Packet) -> anyhow
                 "  {to} {number}: {name} {from} to {tag} place {place} [{text}]{last} upto {upto}{all} edge {edge}"
             )?
         }
-        _ => println!(rt; "  {to} {number}: {name} {from} to {tag}")?,
+        Kind::Ask | Kind::Yes | Kind::Bye => {
+            println!(rt; "  {to} {number}: {name} {from} to {tag}")?
+        }
     }
     Ok(())
 }
@@ -44,21 +45,10 @@ pub fn print_packets(
     sent: &[Packet],
     before: usize,
 ) -> anyhow::Result<()> {
-    for i in before..sent.len() {
-        print_packet(rt, to, i.saturating_add(1), &sent[i])?;
+    for (i, packet) in sent.iter().enumerate().skip(before) {
+        print_packet(rt, to, i.saturating_add(1), packet)?;
     }
     Ok(())
-}
-
-/// The bytes of one connection among those of all.
-fn bytes_of(rt: &HostRuntime, entries: &[Entry], tag: u64) -> anyhow::Result<String> {
-    let mut bytes = Vec::new(rt.alloc());
-    for entry in entries {
-        if entry.tag == tag {
-            bytes.push(entry.byte)?;
-        }
-    }
-    word(rt, bytes.as_slice())
 }
 
 fn yes_no(b: bool) -> &'static str {
@@ -68,8 +58,8 @@ fn yes_no(b: bool) -> &'static str {
 /// What the users of a side gave, were given and were told.
 pub fn print_book(rt: &HostRuntime, side: &str, book: &Book) -> anyhow::Result<()> {
     for r in book.records.as_slice() {
-        let given = bytes_of(rt, book.given.as_slice(), r.tag)?;
-        let taken = bytes_of(rt, book.taken.as_slice(), r.tag)?;
+        let given = word(rt, r.given.as_slice())?;
+        let taken = word(rt, r.taken.as_slice())?;
         let (tag, peer, upto) = (r.tag, r.peer, r.upto);
         let (opened, closed, told, all) = (
             yes_no(r.opened),

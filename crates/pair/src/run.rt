@@ -15,6 +15,7 @@ const ROOM: u64 = CAPACITY as u64;
 
 const SIZE: u64 = 1024;
 
+// No `From`: both types are other crates'.
 fn side_of(side: Named) -> Side {
     match side {
         Named::L => Side::Left,
@@ -22,12 +23,32 @@ fn side_of(side: Named) -> Side {
     }
 }
 
-/// The number of a refusal; 1 for what names no packet, or a tag that was drawn before.
-fn number(fault: Fault) -> u8 {
-    match fault {
-        Fault::Refused(refusal) => refusal.into(),
-        Fault::Unfit | Fault::Memory => 1,
+/// How many packets were sent to each side.
+#[derive(Clone, Copy)]
+struct Sent {
+    left: usize,
+    right: usize,
+}
+
+impl Sent {
+    fn to_sides(pair: &Simulation<'_>) -> Sent {
+        Sent {
+            left: pair.sent_to(Side::Left).len(),
+            right: pair.sent_to(Side::Right).len(),
+        }
     }
+
+    /// Prints what was sent since.
+    fn print_later(self, rt: &HostRuntime, pair: &Simulation<'_>) -> anyhow::Result<()> {
+        print_packets(rt, "L", pair.sent_to(Side::Left), self.left)?;
+        print_packets(rt, "R", pair.sent_to(Side::Right), self.right)
+    }
+}
+
+fn print_refused(rt: &HostRuntime, fault: Fault) -> anyhow::Result<()> {
+    let n = fault.number();
+    println!(rt; "  refused {n}")?;
+    Ok(())
 }
 
 fn print_answer(rt: &HostRuntime, answer: Result<Answer, Fault>) -> anyhow::Result<()> {
@@ -36,10 +57,7 @@ fn print_answer(rt: &HostRuntime, answer: Result<Answer, Fault>) -> anyhow::Resu
         Ok(Answer::Gave(n)) => println!(rt; "  gave {n}")?,
         Ok(Answer::Took(n)) => println!(rt; "  took {n}")?,
         Ok(Answer::Heard(_)) => println!(rt; "  heard")?,
-        Err(fault) => {
-            let n = number(fault);
-            println!(rt; "  refused {n}")?
-        }
+        Err(fault) => print_refused(rt, fault)?,
     }
     Ok(())
 }
@@ -63,11 +81,9 @@ fn command_of<'a>(side: Side, call: Call<'_>, bytes: &'a [u8]) -> Option<Command
 
 /// Makes one step, and prints its answer and what went out.
 fn make(rt: &HostRuntime, pair: &mut Simulation<'_>, command: Command<'_>) -> anyhow::Result<()> {
-    let left = pair.sent_to(Side::Left).len();
-    let right = pair.sent_to(Side::Right).len();
+    let before = Sent::to_sides(pair);
     print_answer(rt, pair.step(command))?;
-    print_packets(rt, "L", pair.sent_to(Side::Left), left)?;
-    print_packets(rt, "R", pair.sent_to(Side::Right), right)
+    before.print_later(rt, pair)
 }
 
 fn act(
@@ -77,30 +93,24 @@ fn act(
     call: Call<'_>,
 ) -> anyhow::Result<()> {
     let mut bytes = [0; 1024];
-    let mut count = 0;
-    if let Call::Give { encoded, .. } = call {
-        count = decode(encoded, &mut bytes);
-    }
-    let Some(command) = command_of(side, call, &bytes[0..count.min(1024)]) else {
-        println!(rt; "  refused 1")?;
-        return Ok(());
+    let count = match call {
+        Call::Give { encoded, .. } => decode(encoded, &mut bytes),
+        _ => 0,
     };
-    make(rt, pair, command)
+    match command_of(side, call, &bytes[..count.min(1024)]) {
+        Some(command) => make(rt, pair, command),
+        None => print_refused(rt, Fault::Unfit),
+    }
 }
 
 /// Makes the moves that bring over all that a connection has still to get, and prints how many and what went out.
 fn carry(rt: &HostRuntime, pair: &mut Simulation<'_>, side: Side, tag: u64) -> anyhow::Result<()> {
-    let left = pair.sent_to(Side::Left).len();
-    let right = pair.sent_to(Side::Right).len();
+    let before = Sent::to_sides(pair);
     match pair.carry(side, tag) {
         Ok(n) => println!(rt; "  all is there after {n} moves")?,
-        Err(fault) => {
-            let n = number(fault);
-            println!(rt; "  refused {n}")?
-        }
+        Err(fault) => print_refused(rt, fault)?,
     }
-    print_packets(rt, "L", pair.sent_to(Side::Left), left)?;
-    print_packets(rt, "R", pair.sent_to(Side::Right), right)
+    before.print_later(rt, pair)
 }
 
 /// Does what a line says.
@@ -119,19 +129,16 @@ fn obey(rt: &HostRuntime, pair: &mut Simulation<'_>, line: Line<'_>) -> anyhow::
         Line::Act { side: None, .. }
         | Line::Settings { .. }
         | Line::Damage { .. }
-        | Line::Tick { .. } => {
-            println!(rt; "  refused 1")?;
-            Ok(())
-        }
+        | Line::Tick { .. } => print_refused(rt, Fault::Unfit),
     }
 }
 
 /// The settings that an opening line asks for.
 fn settings_of(line: Line<'_>) -> Option<Settings> {
-    match line {
-        Line::Settings { room, size } => Settings::new(room, size),
-        _ => None,
-    }
+    let Line::Settings { room, size } = line else {
+        return None;
+    };
+    Settings::new(room, size)
 }
 
 /// Reads a script to its end or its first fault, and does each line as it comes.
@@ -165,9 +172,7 @@ pub fn run(rt: &HostRuntime) -> anyhow::Result<()> {
             Some(s) if !begun => pair = pair.restart(rt.alloc(), s),
             _ => obey(rt, &mut pair, line)?,
         }
-        if let Line::Act { .. } | Line::Bring { .. } = line {
-            begun = true;
-        }
+        begun |= matches!(line, Line::Act { .. } | Line::Bring { .. });
     }
     print_book(rt, "L", pair.book(Side::Left))?;
     print_book(rt, "R", pair.book(Side::Right))

@@ -16,13 +16,12 @@ use packet::packet::{Packet, SIZE};
 use packet::settings::{CAPACITY, Settings};
 use std::alloc::Global;
 
-/// A record after a look at its connection.
-fn noted(end: &Endpoint<'_>, r: Record) -> Record
-    ensures { (e : End) → Stands end.now e → result ≡ noted_in e.conns r }
+/// A look at the connection of a record, if that is there, is written down.
+fn note(end: &Endpoint<'_>, account: &mut Record)
+    ensures { (e : End) → Stands end.now e → account.new ≡ noted_in e.conns account.old }
 {
-    match look(end.table(), r.tag) {
-        Some(v) => r.note(v),
-        None => r,
+    if let Some(v) = look(end.table(), account.tag) {
+        account.note(v);
     }
 }
 
@@ -30,9 +29,8 @@ fn noted(end: &Endpoint<'_>, r: Record) -> Record
 fn note_all(end: &Endpoint<'_>, records: &mut Vec<Record>)
     ensures { (e : End) → Stands end.now e → records.new.items ≡ map (noted_in e.conns) records.old.items }
 {
-    for i in 0..records.len() {
-        let r = noted(end, records[i]);
-        records[i] = r;
+    for account in records.iter_mut() {
+        note(end, account);
     }
 }
 
@@ -116,80 +114,52 @@ impl<'m> Party<'m> {
     pub fn open(&mut self, tag: u64) -> Result<Packet, Fault>
         ensures { Opened self.old self.new tag result }
     {
-        let Ok(_) = self.book.reserve(0) else {
-            return Err(Fault::Memory);
-        };
-        match self.end.open(tag) {
-            Err(f) => Err(Fault::Refused(f)),
-            Ok(p) => {
-                self.book.begin(tag);
-                self.look_around();
-                Ok(p)
-            }
-        }
+        self.book.reserve(tag, 0)?;
+        let ask = self.end.open(tag)?;
+        self.book.begin(tag);
+        self.look_around();
+        Ok(ask)
     }
 
     /// As many of the bytes as have room are given, and written down.
     pub fn give(&mut self, tag: u64, bytes: &[u8]) -> Result<usize, Fault>
         ensures { Gave self.old self.new tag bytes.now result }
     {
-        let Ok(_) = self.book.reserve(bytes.len()) else {
-            return Err(Fault::Memory);
-        };
-        match self.end.give(tag, bytes) {
-            Err(f) => Err(Fault::Refused(f)),
-            Ok(n) => {
-                self.book.give(tag, &bytes[0..n.min(bytes.len())]);
-                self.look_around();
-                Ok(n)
-            }
-        }
+        self.book.reserve(tag, bytes.len())?;
+        let count = self.end.give(tag, bytes)?;
+        self.book.give(tag, &bytes[..count.min(bytes.len())]);
+        self.look_around();
+        Ok(count)
     }
 
     /// The user gives no more.
     pub fn close(&mut self, tag: u64) -> Result<(), Fault>
         ensures { Tried self.old self.new (λ o. Closes o tag) result }
     {
-        match self.end.close(tag) {
-            Err(f) => Err(Fault::Refused(f)),
-            Ok(_) => {
-                self.look_around();
-                Ok(())
-            }
-        }
+        self.end.close(tag)?;
+        self.look_around();
+        Ok(())
     }
 
     /// The user breaks a connection off; a bye goes out unless it only asked.
     pub fn break_off(&mut self, tag: u64) -> Result<Option<Packet>, Fault>
         ensures { Broken self.old self.new tag result }
     {
-        match self.end.break_off(tag) {
-            Err(f) => Err(Fault::Refused(f)),
-            Ok(p) => {
-                self.look_around();
-                Ok(p)
-            }
-        }
+        let bye = self.end.break_off(tag)?;
+        self.look_around();
+        Ok(bye)
     }
 
     /// Bytes that were got and not taken go to the front of `out`, and are written down; how many.
     pub fn take(&mut self, tag: u64, out: &mut [u8]) -> Result<usize, Fault>
         ensures { Tried self.old self.new (λ o. Takes o tag (length out.old)) result }
     {
-        let Ok(_) = self.book.reserve(out.len()) else {
-            return Err(Fault::Memory);
-        };
-        let Some(_) = look(self.end.table(), tag) else {
-            return Err(Fault::Refused(Refusal::NotThere));
-        };
-        match self.end.take(tag, out) {
-            Err(f) => Err(Fault::Refused(f)),
-            Ok(n) => {
-                self.book.take(tag, &out[0..n.min(out.len())]);
-                self.look_around();
-                Ok(n)
-            }
-        }
+        self.book.reserve(tag, out.len())?;
+        look(self.end.table(), tag).ok_or(Refusal::NotThere)?;
+        let count = self.end.take(tag, out)?;
+        self.book.take(tag, &out[..count.min(out.len())]);
+        self.look_around();
+        Ok(count)
     }
 
     /// A connection that is there with a tag gets a record.
@@ -197,7 +167,7 @@ impl<'m> Party<'m> {
         ensures end { self.new.end ≡ self.old.end }
         ensures met { (e : End) → Stands self.old.end e → RoomFor 1 self.old.book.records → Met tag (by_tag tag e.conns) self.old.book self.new.book }
     {
-        if let Some(_) = look(self.end.table(), tag) {
+        if look(self.end.table(), tag).is_some() {
             self.book.begin(tag);
         }
     }
@@ -209,29 +179,19 @@ impl<'m> Party<'m> {
         if p.count > SIZE {
             return Err(Fault::Unfit);
         }
-        let Ok(_) = self.book.reserve(0) else {
-            return Err(Fault::Memory);
-        };
-        match self.end.hear(p.head, &p.text[0..p.count], draws) {
-            Err(f) => Err(Fault::Refused(f)),
-            Ok(r) => {
-                self.meet(draws);
-                self.look_around();
-                Ok(r)
-            }
-        }
+        self.book.reserve(draws, 0)?;
+        let reply = self.end.hear(p.head, &p.text[..p.count], draws)?;
+        self.meet(draws);
+        self.look_around();
+        Ok(reply)
     }
 
     /// A connection is forgotten: nothing more is heard or said of it.
     pub fn forget(&mut self, tag: u64) -> Result<(), Fault>
         ensures { Tried self.old self.new (λ o. Forgets o tag) result }
     {
-        match self.end.forget(tag) {
-            Err(f) => Err(Fault::Refused(f)),
-            Ok(_) => {
-                self.look_around();
-                Ok(())
-            }
-        }
+        self.end.forget(tag)?;
+        self.look_around();
+        Ok(())
     }
 }

@@ -3,6 +3,7 @@
 #![tactic(auto)]
 
 ghost use Rattle.std.specs.Prelude.{◌≡◌};
+ghost use Rattle.party.specs.Faults.{fault_number};
 ghost use Rattle.party.specs.declared.Fault.TheVariants.{Refused, Memory};
 
 mod calls;
@@ -27,6 +28,18 @@ pub enum Fault {
     Unfit,
     /// There is no memory to write it down.
     Memory,
+}
+
+impl Fault {
+    /// Its number: that of the refusal, or 1.
+    pub fn number(self) -> u8
+        ensures { result ≡ fault_number self }
+    {
+        match self {
+            Fault::Refused(refusal) => refusal.number(),
+            Fault::Unfit | Fault::Memory => 1,
+        }
+    }
 }
 
 impl From<Refusal> for Fault {

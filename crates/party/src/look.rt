@@ -15,8 +15,7 @@ fn view(c: &Connection) -> View
     ensures { (cfg : Settings) (mem : Rings) (d : Conn) → Stand1 cfg c.now mem d → Some result ≡ view_of (There d) }
 {
     View {
-        peer: c.pairing.theirs,
-        settled: !c.pairing.is_asked(),
+        peer: (!c.pairing.is_asked()).then_some(c.pairing.theirs),
         opened: c.pairing.speaks(),
         given: c.stream.sender.given,
         closed: c.stream.closed,
@@ -33,8 +32,6 @@ fn view(c: &Connection) -> View
 pub fn look(table: &Table, tag: u64) -> Option<View>
     ensures { SeenIn table.now tag result }
 {
-    match table.find(Wanted::Tag(tag)) {
-        None => None,
-        Some(lane) => Some(view(&table.conns[lane])),
-    }
+    let lane = table.find(Wanted::Tag(tag))?;
+    Some(view(&table.conns[lane]))
 }

@@ -1,10 +1,11 @@
-use Rattle.std.proofs.Common.{vec_items, arith}
+use Rattle.std.proofs.Common.{map, ap, ◌∙◌, arith}
+use Rattle.std.proofs.lemmas.List.{with_items_is}
 use Rattle.ledger.specs.Books.{noted_in}
-use Rattle.party.proofs.Noting.{note_more, note_all_lem}
+use Rattle.ledger.proofs.Written.{map_over_at, map_over_all}
 use Rattle.party.proofs.calls.note_all.Goals as goal
 
-pub loop-i-preserved : goal.loop-i-preserved
-loop-i-preserved c = (c.loop-i.invariant.0, λ e s. note_more (noted_in e.conns) (vec_items c.args.records.now) (vec_items c.loop-i.records) c.loop-i.i _ _ (omega (arith, c.loop-i-test.true, c.len-i-end.ensures, c.args.records.now.ok.0)) (c.loop-i.invariant.1 e s) c.index.ensures (c.noted-r.ensures e s))
+pub loop-account-preserved : goal.loop-account-preserved
+loop-account-preserved c e s = map_over_at (noted_in e.conns) _ _ _ c.account-item.result _ c.loop-account-test.true c.loop-account.auto.account-items (c.loop-account.invariant e s) (c.note.ensures e s)
 
 pub returns : goal.returns
-returns c e s = note_all_lem (noted_in e.conns) (vec_items c.args.records.now) (vec_items c.loop-i.records) c.loop-i.i (omega (arith, c.loop-i-test.false, c.len-i-end.ensures, c.args.records.now.ok.0)) (c.loop-i.invariant.1 e s)
+returns c e s = with_items_is c.args.records.now c.loop-account.account-items (omega arith) ∙ c.loop-account.invariant e s ∙ map_over_all (noted_in e.conns) _ c.loop-account.account-index c.loop-account-test.false ∙ ap (map (noted_in e.conns)) c.deref_mut-account-items.ensures.value

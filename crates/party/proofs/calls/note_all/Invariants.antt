@@ -1,8 +1,8 @@
-use Rattle.std.proofs.Common.{◌≡◌, ◌++◌, map, take, drop, vec_items, vec_len}
+use Rattle.std.proofs.Common.{◌≡◌, ◌++◌, map, take, drop}
 use Rattle.hold.specs.World.{End}
 use Rattle.endpoint.specs.Stands.{Stands}
 use Rattle.ledger.specs.Books.{noted_in}
 use Rattle.party.proofs.calls.note_all.Given as goal
 
-abbrev pub invariant-loop-i : goal.invariant-loop-i
-invariant-loop-i l = (vec_len l.records ≡ vec_len l.initial.records) × ((e : End) → Stands l.end e → vec_items l.records ≡ map (noted_in e.conns) (take l.i (vec_items l.initial.records)) ++ drop l.i (vec_items l.initial.records))
+abbrev pub invariant-loop-account : goal.invariant-loop-account
+invariant-loop-account l = (e : End) → Stands l.end e → l.account-items ≡ map (noted_in e.conns) (take l.account-index l.initial.account-items) ++ drop l.account-index l.initial.account-items
