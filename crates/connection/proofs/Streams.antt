@@ -2,19 +2,19 @@
 use Rattle.std.specs.Bool.{then_some}
 use Rattle.std.specs.Option.{option_eq, option_or}
 use Rattle.std.specs.Prelude.{nat_eq}
-use Rattle.std.proofs.Common.{◌≡◌, ℕ, ◌+◌, ◌-◌, ◌≤◌, min, max, Bool, true, false, Some, refl, cond, ◌||◌, List, [], ◌++◌, length, Option, None, sym, ap, ◌∙◌, subst, arith}
+use Rattle.std.proofs.Common.{◌≡◌, ℕ, ◌+◌, ◌≤◌, max, Bool, true, false, Some, refl, cond, ◌||◌, List, [], ◌++◌, length, Option, None, sym, ap, ◌∙◌, subst}
 use Rattle.std.proofs.lemmas.Bool.{cond-false}
 use Rattle.hold.specs.Packet as m
 use Rattle.hold.specs.Packet.{Piece, larger, lower}
-use Rattle.hold.specs.Conn.{gives, takes, advance, ends, said, heard, keep, turn, from}
-use Rattle.hold.proofs.Bridge.{larger_lib, lower_lib}
+use Rattle.hold.specs.Conn.{gives, advance, ends, said, heard, keep, turn, from}
+use Rattle.hold.proofs.Bridge.{larger_lib}
 use Rattle.packet.specs.Sizes.{capacity}
 use Rattle.lent.specs.Bits.{AllAre}
 use Rattle.lent.specs.Rings.{Waits, Holds}
 use Rattle.lent.specs.declared.sender.Sender.{Sender}
 use Rattle.lent.specs.declared.receiver.Receiver.{Receiver}
 use Rattle.connection.specs.Phases.{last_of}
-use Rattle.connection.specs.Stand.{Past, conn_of, Flows, Began, Rings, rings, join}
+use Rattle.connection.specs.Stand.{Past, conn_of, Flows, Began, rings, join}
 use Rattle.connection.specs.declared.stream.Stream.{Stream}
 
 pub begins : (s : Sender) (r : Receiver) → ((ring : List ℕ) → length ring ≡ capacity → Waits s ring []) → s.upto ≡ 0 →
@@ -41,15 +41,6 @@ flows_give cfg x s ring ring2 bs cl up w into bits q c st =
     let h : Past = record { opened = st.past.opened; given = g ++ bs; got = st.past.got; kept = st.past.kept } in
     let i : conn_of (join q (with_sender x s)) h ≡ gives bs (conn_of (join q x) st.past) = cc in
     record { past = h; is = i ∙ ap (gives bs) st.is; waits = w g st.waits; holds = st.holds }
-
-pub flows_take : (cfg : m.Settings) (x : Stream) (r : Receiver) (k n : ℕ) → n ≡ min k (x.receiver.got - x.receiver.taken) → r.taken ≡ x.receiver.taken + n →
-    ((w : ℕ) (ring bits g : List ℕ) (ks : List Piece) → Holds w x.receiver ring bits g ks → Holds w r ring bits g ks) → (mem : Rings) → Flows cfg x mem (with_receiver x r x.ended) mem (takes k)
-flows_take cfg x r k n en et h mem q c st =
-    let g = st.past.got in
-    let a = x.receiver.taken in
-    let e : lower (a + k) (length g) ≡ r.taken = lower_lib (a + k) (length g) ∙ (let j : min (a + k) (length g) ≡ r.taken = omega (arith, en, et, st.holds.got_all, st.holds.below) in j) in
-    let i : conn_of (join q (with_receiver x r x.ended)) st.past ≡ takes k (conn_of (join q x) st.past) = cc in
-    record { past = st.past; is = i ∙ ap (takes k) st.is; waits = st.waits; holds = h cfg.room mem.into mem.bits g st.past.kept st.holds }
 
 -- whether the end is at a place, and what a text says of it, by the code's option
 ends-at : (e : Option ℕ) (n : ℕ) → option_eq nat_eq e (Some n) ≡ ends (last_of e) n

@@ -1,41 +1,16 @@
 -- What a connection says is what the model's says.
-use Rattle.std.proofs.Common.{◌≡◌, ℕ, ◌+◌, ◌-◌, ◌^◌, ◌<◌, ◌≤◌, min, max, Bool, not, ◌&&◌, eqb, List, length, take, drop, sym, ap, ◌∙◌, arith}
-use Rattle.std.proofs.lemmas.List.{length-take, length-drop}
+use Rattle.std.proofs.Common.{◌≡◌, ℕ, ◌-◌, ◌≤◌, min, max, List, sym, ap, ◌∙◌, arith}
 use Rattle.hold.specs.Packet as m
 use Rattle.hold.specs.Packet.{larger, lower}
 use Rattle.hold.specs.Conn.{Conn, says, due}
 use Rattle.hold.proofs.Bridge.{larger_lib, lower_lib}
-use Rattle.packet.specs.Packets.{packet_of}
 use Rattle.packet.specs.Sizes.{text_size}
-use Rattle.packet.specs.declared.packet.Head.{Head}
-use Rattle.packet.specs.declared.packet.Kind.TheVariants.{Text}
-use Rattle.lent.specs.Rings.{Waits}
 use Rattle.connection.specs.Stand.{conn_of, Stand1, rings, text_at}
 use Rattle.connection.specs.declared.connection.Connection.{Connection}
-
-abbrev pub text_head : Connection → ℕ → Bool → ℕ → Head
-text_head x p last edge = record { kind = Text; from = x.pairing.mine; to = x.pairing.theirs; place = p; last = last; upto = x.stream.receiver.got; all = x.stream.ended; edge = edge }
 
 -- r is the text from p on with at most k bytes
 abbrev pub IsText : m.Settings → Connection → List ℕ → ℕ → ℕ → m.Packet → Type 0
 IsText cfg x ring p k r = (into bits : List ℕ) (c : Conn) → Stand1 cfg x (rings ring into bits) c → x.stream.sender.upto ≤ p → r ≡ text_at cfg p (min k text_size) c
-
-pub text_is : (cfg : m.Settings) (x : Connection) (ring : List ℕ) (p k n : ℕ) (text : List ℕ) (last : Bool) (edge : ℕ) → p < 2 ^ 64 →
-    ((g : List ℕ) → Waits x.stream.sender ring g → x.stream.sender.upto ≤ p → take n text ≡ take (min k text_size) (drop p g)) → n ≡ min (min k text_size) (x.stream.sender.given - p) →
-    last ≡ (x.stream.closed && not x.stream.all && eqb (min (p + n) (2 ^ 64 - 1)) x.stream.sender.given) → edge ≡ min (x.stream.receiver.taken + cfg.room) (2 ^ 64 - 1) →
-    IsText cfg x ring p k (packet_of (text_head x p last edge) (take n text))
-text_is cfg x ring p k n text last edge fp et en el ee into bits c st lo =
-    let h = st.past in
-    let t : take n text ≡ take (min k text_size) (drop p h.given) = et h.given st.waits lo in
-    let ga = st.waits.given_all in
-    let ln : length (take (min k text_size) (drop p h.given)) ≡ n = simp (length-take, length-drop) (omega (arith, en, ga)) in
-    let same : min (p + n) (2 ^ 64 - 1) ≡ p + n = omega (arith, en, fp, ga, st.waits.small) in
-    let l : last ≡ (x.stream.closed && not x.stream.all && eqb (p + length (take (min k text_size) (drop p h.given))) (length h.given)) =
-    el ∙ ap (λ j. x.stream.closed && not x.stream.all && eqb j x.stream.sender.given) (same ∙ ap (λ j. p + j) (sym ln)) ∙ ap (λ j. x.stream.closed && not x.stream.all && eqb (p + length (take (min k text_size) (drop p h.given))) j) ga in
-    let e : edge ≡ x.stream.receiver.taken + cfg.room = ee ∙ (let q : min (x.stream.receiver.taken + cfg.room) (2 ^ 64 - 1) ≡ x.stream.receiver.taken + cfg.room = omega (arith, st.holds.below, st.holds.small, st.holds.narrow) in q) in
-    let gt = st.holds.got_all in
-    let q : packet_of (text_head x p last edge) (take n text) ≡ text_at cfg p (min k text_size) (conn_of x h) = cc in
-    q ∙ ap (text_at cfg p (min k text_size)) st.is
 
 pub due_is : (cfg : m.Settings) (x : Connection) (ring : List ℕ) (k : ℕ) (r : m.Packet) → cfg.size ≤ text_size → k ≡ max (min cfg.size (x.stream.sees - x.stream.sender.upto)) 1 → IsText cfg x ring x.stream.sender.upto k r →
     (into bits : List ℕ) (c : Conn) → Stand1 cfg x (rings ring into bits) c → r ≡ due cfg c

@@ -8,12 +8,13 @@ ghost use Rattle.party.specs.Plays.{Acts, Answered, Broken, Plays, Said, Gave, H
 
 use crate::look::look;
 use crate::{Fault, Party};
-use endpoint::{Endpoint, LANES, RINGS, Refusal};
+use endpoint::{Endpoint, Refusal};
+use lanes::LANES;
 use ledger::book::Book;
 use ledger::record::{Record, View};
-use lent::bits::WORDS;
-use packet::packet::{Packet, SIZE};
-use packet::settings::{CAPACITY, Settings};
+use lent::inbox::Memory;
+use packet::packet::Packet;
+use packet::settings::Settings;
 use std::alloc::Global;
 
 /// A look at the connection of a record, if that is there, is written down.
@@ -43,17 +44,12 @@ impl<'m> Party<'m> {
     }
 
     /// An end with no connection, over memory that may hold anything, and nothing written down.
-    pub fn new(
-        heap: Global,
-        settings: Settings,
-        memory: &'m mut [[u8; CAPACITY]; RINGS],
-        bits: &'m mut [[u64; WORDS]; LANES],
-    ) -> Party<'m>
+    pub fn new(heap: Global, settings: Settings, memory: &'m mut [Memory; LANES]) -> Party<'m>
         ensures plays { (o : Who) → Plays result (end o start) }
         ensures settings { result.end.settings ≡ settings }
     {
         Party {
-            end: Endpoint::new(settings, memory, bits),
+            end: Endpoint::new(settings, memory),
             book: Book::new(heap),
         }
     }
@@ -176,11 +172,9 @@ impl<'m> Party<'m> {
     pub fn hear(&mut self, p: &Packet, draws: u64) -> Result<Option<Packet>, Fault>
         ensures { Heard self.old self.new (packet p.now) draws result }
     {
-        if p.count > SIZE {
-            return Err(Fault::Unfit);
-        }
+        let view = p.view().ok_or(Fault::Unfit)?;
         self.book.reserve(draws, 0)?;
-        let reply = self.end.hear(p.head, &p.text[..p.count], draws)?;
+        let reply = self.end.hear(view, draws)?;
         self.meet(draws);
         self.look_around();
         Ok(reply)

@@ -20,7 +20,7 @@ pub struct Party<'m> {
 }
 
 /// Why nothing was done.
-#[derive(Clone, Copy)]
+#[derive(Clone, Copy, PartialEq, Eq, Debug)]
 pub enum Fault {
     /// The end refused.
     Refused(Refusal),
@@ -30,13 +30,13 @@ pub enum Fault {
     Memory,
 }
 
-impl Fault {
-    /// Its number: that of the refusal, or 1.
-    pub fn number(self) -> u8
-        ensures { result ≡ fault_number self }
-    {
-        match self {
-            Fault::Refused(refusal) => refusal.number(),
+/// The number of a fault: that of the refusal, or 1.
+impl From<Fault> for u8 {
+    ghost from_gives = { λ fault number. number ≡ fault_number fault };
+
+    fn from(fault: Fault) -> u8 {
+        match fault {
+            Fault::Refused(refusal) => refusal.into(),
             Fault::Unfit | Fault::Memory => 1,
         }
     }

@@ -67,8 +67,6 @@ pub enum Line<'a> {
     },
 }
 
-const FAULT: u8 = 1;
-
 /// A line that isn't one of the format.
 #[derive(Clone, Copy, Debug, PartialEq, Eq)]
 pub struct Fault {
@@ -76,11 +74,13 @@ pub struct Fault {
     pub column: usize,
 }
 
-impl Fault {
-    /// The number of every fault of a line.
-    pub const fn number(self) -> u8
-        ensures { result ≡ 1 }
-    {
+/// The number of every fault of a line.
+const FAULT: u8 = 1;
+
+impl From<Fault> for u8 {
+    ghost from_gives = { λ _ number. number ≡ 1 };
+
+    fn from(_fault: Fault) -> u8 {
         FAULT
     }
 }

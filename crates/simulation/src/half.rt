@@ -5,10 +5,10 @@ ghost use Rattle.packet.specs.Packets.{sent};
 ghost use Rattle.ledger.specs.Room.{RoomFor};
 ghost use Rattle.simulation.specs.Shows.{Begins, HalfDoes, answer_of, net_of, send_of, when_ok};
 
-use endpoint::{LANES, RINGS};
-use lent::bits::WORDS;
+use lanes::LANES;
+use lent::inbox::Memory;
 use packet::packet::Packet;
-use packet::settings::{CAPACITY, Settings};
+use packet::settings::Settings;
 use party::{Fault, Party};
 use std::alloc::Global;
 
@@ -39,13 +39,12 @@ impl<'m> Half<'m> {
     pub(crate) fn new(
         heap: Global,
         settings: Settings,
-        memory: &'m mut [[u8; CAPACITY]; RINGS],
-        bits: &'m mut [[u64; WORDS]; LANES],
+        memory: &'m mut [Memory; LANES],
     ) -> Half<'m>
         ensures { Begins settings result }
     {
         Half {
-            party: Party::new(heap, settings, memory, bits),
+            party: Party::new(heap, settings, memory),
             sent: Vec::new(heap),
         }
     }

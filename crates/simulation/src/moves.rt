@@ -6,9 +6,9 @@ ghost use Rattle.simulation.specs.Shows.{Does, Placed, Shows, answers, net_to, s
 
 use crate::half::Half;
 use crate::pair::{Pair, Side, Sides};
-use endpoint::{LANES, RINGS};
-use lent::bits::WORDS;
-use packet::settings::{CAPACITY, Settings};
+use lanes::LANES;
+use lent::inbox::Memory;
+use packet::settings::Settings;
 use party::Fault;
 use std::alloc::Global;
 
@@ -16,17 +16,15 @@ impl<'m> Pair<'m> {
     pub fn new(
         heap: Global,
         settings: Settings,
-        left_memory: &'m mut [[u8; CAPACITY]; RINGS],
-        left_bits: &'m mut [[u64; WORDS]; LANES],
-        right_memory: &'m mut [[u8; CAPACITY]; RINGS],
-        right_bits: &'m mut [[u64; WORDS]; LANES],
+        left: &'m mut [Memory; LANES],
+        right: &'m mut [Memory; LANES],
     ) -> Pair<'m>
         ensures { Shows (cfg_of settings) result start }
     {
         Pair {
             halves: Sides {
-                left: Half::new(heap, settings, left_memory, left_bits),
-                right: Half::new(heap, settings, right_memory, right_bits),
+                left: Half::new(heap, settings, left),
+                right: Half::new(heap, settings, right),
             },
             drawn: Vec::new(heap),
         }

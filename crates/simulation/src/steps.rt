@@ -8,9 +8,9 @@ ghost use Rattle.simulation.specs.Shows.{Does, who_of};
 use crate::Simulation;
 use crate::command::{Answer, Command};
 use crate::pair::{Pair, Side};
-use endpoint::{LANES, RINGS};
-use lent::bits::WORDS;
-use packet::settings::{CAPACITY, Settings};
+use lanes::LANES;
+use lent::inbox::Memory;
+use packet::settings::Settings;
 use party::Fault;
 use std::alloc::Global;
 
@@ -18,22 +18,13 @@ impl<'m> Simulation<'m> {
     pub fn new(
         heap: Global,
         settings: Settings,
-        left_memory: &'m mut [[u8; CAPACITY]; RINGS],
-        left_bits: &'m mut [[u64; WORDS]; LANES],
-        right_memory: &'m mut [[u8; CAPACITY]; RINGS],
-        right_bits: &'m mut [[u64; WORDS]; LANES],
+        left: &'m mut [Memory; LANES],
+        right: &'m mut [Memory; LANES],
     ) -> Simulation<'m>
         ensures sentence { Sentence (accounts result.pair.halves.left.party.book) (accounts result.pair.halves.right.party.book) }
     {
         Simulation {
-            pair: Pair::new(
-                heap,
-                settings,
-                left_memory,
-                left_bits,
-                right_memory,
-                right_bits,
-            ),
+            pair: Pair::new(heap, settings, left, right),
         }
     }
 
