@@ -185,10 +185,9 @@ impl<'m> Endpoint<'m> {
     }
 
     /// What an end takes and refuses makes it a code in the model's sense, with room for sixteen connections.
-    pub fn is_code(settings: Settings) -> u8
+    pub fn is_code(settings: Settings)
         ensures code { CodeTaking (cfg_of settings) }
         ensures agrees { Agrees }
     {
-        0
     }
 }

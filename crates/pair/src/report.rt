@@ -2,15 +2,6 @@ use ledger::book::Book;
 use packet::packet::{Kind, Packet};
 use text::data::encode;
 
-fn kind_name(kind: Kind) -> &'static str {
-    match kind {
-        Kind::Ask => "ask",
-        Kind::Yes => "yes",
-        Kind::Text => "text",
-        Kind::Bye => "bye",
-    }
-}
-
 /// Bytes as a word of data.
 fn word(rt: &HostRuntime, bytes: &[u8]) -> anyhow::Result<String> {
     let encoded = encode(rt.alloc(), bytes)?;
@@ -19,20 +10,19 @@ fn word(rt: &HostRuntime, bytes: &[u8]) -> anyhow::Result<String> {
 
 /// A packet, with its number among all that were ever sent to a side.
 fn print_packet(rt: &HostRuntime, to: &str, number: usize, p: &Packet) -> anyhow::Result<()> {
-    let name = kind_name(p.head.kind);
-    let (from, tag) = (p.head.from, p.head.to);
-    match p.head.kind {
+    let (kind, from, tag) = (p.head.kind, p.head.from, p.head.to);
+    match kind {
         Kind::Text => {
-            let text = word(rt, &p.text[..p.count.min(1024)])?;
+            let text = word(rt, p.view().map_or(p.text.as_slice(), |view| view.text))?;
             let (place, upto, edge) = (p.head.place, p.head.upto, p.head.edge);
             let last = if p.head.last { " last" } else { "" };
             let all = if p.head.all { " all" } else { "" };
             println!(rt;
-                "  {to} {number}: {name} {from} to {tag} place {place} [{text}]{last} upto {upto}{all} edge {edge}"
+                "  {to} {number}: {kind} {from} to {tag} place {place} [{text}]{last} upto {upto}{all} edge {edge}"
             )?
         }
         Kind::Ask | Kind::Yes | Kind::Bye => {
-            println!(rt; "  {to} {number}: {name} {from} to {tag}")?
+            println!(rt; "  {to} {number}: {kind} {from} to {tag}")?
         }
     }
     Ok(())

@@ -1,6 +1,6 @@
 use crate::report::{print_book, print_packets};
-use endpoint::{LANES, RINGS};
-use lent::bits::WORDS;
+use lanes::LANES;
+use lent::inbox::Memory;
 use packet::settings::{CAPACITY, Settings};
 use party::Fault;
 use script::line::{Call, Line, Side as Named};
@@ -46,7 +46,7 @@ impl Sent {
 }
 
 fn print_refused(rt: &HostRuntime, fault: Fault) -> anyhow::Result<()> {
-    let n = fault.number();
+    let n = u8::from(fault);
     println!(rt; "  refused {n}")?;
     Ok(())
 }
@@ -97,7 +97,7 @@ fn act(
         Call::Give { encoded, .. } => decode(encoded, &mut bytes),
         _ => 0,
     };
-    match command_of(side, call, &bytes[..count.min(1024)]) {
+    match command_of(side, call, &bytes[..count]) {
         Some(command) => make(rt, pair, command),
         None => print_refused(rt, Fault::Unfit),
     }
@@ -146,24 +146,16 @@ pub fn run(rt: &HostRuntime) -> anyhow::Result<()> {
     let Some(settings) = Settings::new(ROOM, SIZE) else {
         return Ok(());
     };
-    let (mut left_memory, mut left_bits) = ([[0; CAPACITY]; RINGS], [[0; WORDS]; LANES]);
-    let (mut right_memory, mut right_bits) = ([[0; CAPACITY]; RINGS], [[0; WORDS]; LANES]);
-    let mut pair = Simulation::new(
-        rt.alloc(),
-        settings,
-        &mut left_memory,
-        &mut left_bits,
-        &mut right_memory,
-        &mut right_bits,
-    );
+    let (mut left, mut right) = ([Memory::new(); LANES], [Memory::new(); LANES]);
+    let mut pair = Simulation::new(rt.alloc(), settings, &mut left, &mut right);
     let mut begun = false;
     for (at, text) in rt.lines(rt.alloc()).enumerate() {
         let text = text?;
         let line = match read(text.as_bytes()) {
             Ok(line) => line,
             Err(fault) => {
-                let (n, column) = (at.saturating_add(1), fault.column);
-                println!(rt; "line {n}, column {column}: refused 1")?;
+                let (n, number) = (at.saturating_add(1), u8::from(fault));
+                println!(rt; "line {n}, {fault}: refused {number}")?;
                 break;
             }
         };
