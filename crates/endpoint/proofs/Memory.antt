@@ -1,5 +1,5 @@
 -- The memory of a lane is written, and no other's.
-use Rattle.std.proofs.Common.{◌≡◌, ℕ, ◌<◌, List, length, get_or, set, sym, ap, ◌∙◌, subst, arith}
+use Rattle.std.proofs.Common.{◌≡◌, ℕ, ◌<◌, List, length, set, sym, ap, ◌∙◌, subst, arith}
 use Rattle.std.proofs.lemmas.List.{get_or-set_other, get_or-set_same, length-set}
 use Rattle.hold.specs.Conn.{Conn}
 use Rattle.lent.specs.declared.inbox.Memory.{Memory}

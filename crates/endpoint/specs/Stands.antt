@@ -5,7 +5,6 @@ use Rattle.hold.specs.World.{End}
 use Rattle.packet.specs.Agreed.{cfg_of}
 use Rattle.connection.specs.Stand.{Rings, rings_of}
 use Rattle.lanes.specs.declared.TheConstants.{LANES}
-use Rattle.lent.specs.declared.inbox.Inbox.{Inbox}
 use Rattle.lent.specs.declared.inbox.Memory.{Memory}
 use Rattle.table.specs.Lodges.{Lodges}
 use Rattle.endpoint.specs.declared.Endpoint.{Endpoint}

@@ -188,6 +188,5 @@ impl<'m> Endpoint<'m> {
     pub fn is_code(settings: Settings)
         ensures code { CodeTaking (cfg_of settings) }
         ensures agrees { Agrees }
-    {
-    }
+    {}
 }

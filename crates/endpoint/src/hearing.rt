@@ -9,8 +9,8 @@ use connection::connection::Connection;
 use connection::phase::Phase;
 use lent::incoming::Incoming;
 use lent::sender::MOST;
-use packet::settings::CAPACITY;
 use packet::packet::{Head, Kind, Packet, PacketRef, SIZE};
+use packet::settings::CAPACITY;
 use table::Wanted;
 
 /// The largest edge of a stream: all its bytes, and the largest window.
@@ -34,9 +34,7 @@ impl<'m> Endpoint<'m> {
     fn needs_connection(&self, p: Head) -> bool
         ensures { (ts : List ℕ) → result ≡ needs self.now (packet_of p ts) }
     {
-        p.kind == Kind::Ask
-            && self.listens
-            && self.table.find(Wanted::Peer(p.from)).is_none()
+        p.kind == Kind::Ask && self.listens && self.table.find(Wanted::Peer(p.from)).is_none()
     }
 
     /// A bye whose tags are those of a connection ends it.
@@ -80,8 +78,7 @@ impl<'m> Endpoint<'m> {
         };
         let c = self.table.conns[lane];
         if c.pairing.is_partner(p.from) {
-            self.table.conns[lane] =
-                c.hear(&mut self.memory[lane].inbox, self.settings, incoming);
+            self.table.conns[lane] = c.hear(&mut self.memory[lane].inbox, self.settings, incoming);
         }
         None
     }

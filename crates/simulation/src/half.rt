@@ -36,11 +36,7 @@ pub struct Half<'m> {
 }
 
 impl<'m> Half<'m> {
-    pub(crate) fn new(
-        heap: Global,
-        settings: Settings,
-        memory: &'m mut [Memory; LANES],
-    ) -> Half<'m>
+    pub(crate) fn new(heap: Global, settings: Settings, memory: &'m mut [Memory; LANES]) -> Half<'m>
         ensures { Begins settings result }
     {
         Half {

@@ -1,11 +1,10 @@
-use Rattle.std.proofs.Common.{◌≡◌, Option, sym, ap, ◌∙◌, subst}
+use Rattle.std.proofs.Common.{◌≡◌, sym, ap, ◌∙◌, subst}
 use Rattle.hold.specs.Packet as m
 use Rattle.hold.specs.World.{by_tag}
 use Rattle.endpoint.specs.Stands.{Stands}
 use Rattle.endpoint.specs.Steps.{Heard}
 use Rattle.endpoint.specs.declared.Endpoint.{Endpoint}
 use Rattle.packet.specs.Packets.{Viewed, packet, packet_in, sent}
-use Rattle.packet.specs.declared.packet.PacketRef.{PacketRef}
 use Rattle.ledger.specs.Tells.{with_new}
 use Rattle.party.proofs.Parties.{heard_acts}
 use Rattle.party.proofs.Party.hear.Goals as goal
