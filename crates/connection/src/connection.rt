@@ -15,10 +15,10 @@ use crate::phase::Phase;
 use crate::stream::Stream;
 use lent::inbox::Inbox;
 use lent::incoming::Incoming;
-use packet::packet::{Head, Kind, Packet, SIZE};
+use packet::packet::{Head, Kind, Packet, SIZE, Span};
 use packet::settings::{CAPACITY, Settings};
 
-#[derive(Clone, Copy)]
+#[derive(Clone, Copy, PartialEq, Eq, Debug)]
 pub struct Connection {
     pub pairing: Pairing,
     pub stream: Stream,
@@ -90,18 +90,20 @@ impl Connection {
         opened
     }
 
-    /// The text from a place on, which is not confirmed, with at most so many bytes.
-    fn text(&self, ring: &[u8; CAPACITY], settings: Settings, place: u64, most: u64) -> Packet
-        ensures { (into bits : List ℕ) (c : Conn) → Stand1 (cfg_of settings) self.now (rings ring.now into bits) c → self.now.stream.sender.upto ≤ place → packet result ≡ text_at (cfg_of settings) place (min most text_size) c }
+    // The ring is lent and the settings are the end's: a struct of both would be made for each call, and taken apart in it.
+
+    /// The text of a span, of which nothing is confirmed.
+    fn text(&self, ring: &[u8; CAPACITY], settings: Settings, span: Span) -> Packet
+        ensures { (into bits : List ℕ) (c : Conn) → Stand1 (cfg_of settings) self.now (rings ring.now into bits) c → self.now.stream.sender.upto ≤ span.place → packet result ≡ text_at (cfg_of settings) span.place (min span.most text_size) c }
     {
         let mut text = [0; SIZE];
-        let count = self.stream.sender.read(ring, place, most, &mut text);
-        let last = self.stream.is_last(place.saturating_add(count as u64));
+        let count = self.stream.sender.read(ring, span, &mut text);
+        let last = self.stream.is_last(span.place.saturating_add(count as u64));
         let head = Head {
             kind: Kind::Text,
             from: self.pairing.mine,
             to: self.pairing.theirs,
-            place,
+            place: span.place,
             last,
             upto: self.stream.receiver.got,
             all: self.stream.ended,
@@ -114,19 +116,20 @@ impl Connection {
     pub fn due(&self, ring: &[u8; CAPACITY], settings: Settings) -> Packet
         ensures { (into bits : List ℕ) (c : Conn) → Stand1 (cfg_of settings) self.now (rings ring.now into bits) c → packet result ≡ due (cfg_of settings) c }
     {
-        let upto = self.stream.sender.upto;
-        let seen = self.stream.sees.saturating_sub(upto);
-        self.text(ring, settings, upto, settings.size.min(seen).max(1))
+        let place = self.stream.sender.upto;
+        let seen = self.stream.sees.saturating_sub(place);
+        let most = settings.size.min(seen).max(1);
+        self.text(ring, settings, Span { place, most })
     }
 
-    /// A text from a place on that the other sees, with at most so many bytes and no more than the settings allow. What is
-    /// confirmed is not said again.
-    pub fn says(&self, ring: &[u8; CAPACITY], settings: Settings, place: u64, most: u64) -> Packet
-        ensures { (into bits : List ℕ) (c : Conn) → Stand1 (cfg_of settings) self.now (rings ring.now into bits) c → packet result ≡ says (cfg_of settings) (max c.upto place) (min most settings.size) c }
+    /// A text of what the other sees of a span, with no more bytes than the settings allow. What is confirmed is not said again.
+    pub fn says(&self, ring: &[u8; CAPACITY], settings: Settings, span: Span) -> Packet
+        ensures { (into bits : List ℕ) (c : Conn) → Stand1 (cfg_of settings) self.now (rings ring.now into bits) c → packet result ≡ says (cfg_of settings) (max c.upto span.place) (min span.most settings.size) c }
     {
-        let from = self.stream.sender.upto.max(place);
-        let seen = self.stream.sees.saturating_sub(from);
-        self.text(ring, settings, from, most.min(settings.size).min(seen))
+        let place = self.stream.sender.upto.max(span.place);
+        let seen = self.stream.sees.saturating_sub(place);
+        let most = span.most.min(settings.size).min(seen);
+        self.text(ring, settings, Span { place, most })
     }
 
     /// What answers a text that brought bytes or the end: an acknowledgement, with what may be sent from the first byte that
@@ -134,7 +137,8 @@ impl Connection {
     pub fn answer(&self, ring: &[u8; CAPACITY], settings: Settings) -> Packet
         ensures { (into bits : List ℕ) (c : Conn) → Stand1 (cfg_of settings) self.now (rings ring.now into bits) c → packet result ≡ says (cfg_of settings) c.upto settings.size c }
     {
-        self.says(ring, settings, self.stream.sender.upto, settings.size)
+        let (place, most) = (self.stream.sender.upto, settings.size);
+        self.says(ring, settings, Span { place, most })
     }
 
     /// What is due by the clock: an ask, a yes, or a text.

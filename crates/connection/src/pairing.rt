@@ -37,6 +37,8 @@ impl Pairing {
         self.phase != Phase::Asked && self.theirs == tag
     }
 
+    // The three below differ in a phase alone: each says one test of the model by its name, which a function of any phase could not.
+
     pub fn is_gone(self) -> bool
         ensures { result ≡ gone (phase_of self.phase) }
     {

@@ -16,7 +16,7 @@ use packet::packet::PacketRef;
 use packet::settings::{CAPACITY, Settings};
 
 /// The bytes of a connection, both ways: their numbers. The bytes themselves stand in memory that is passed in.
-#[derive(Clone, Copy)]
+#[derive(Clone, Copy, PartialEq, Eq, Debug)]
 pub struct Stream {
     pub sender: Sender,
     pub receiver: Receiver,
@@ -66,6 +66,8 @@ impl Stream {
         self.sender = sender;
         (self, n)
     }
+
+    // An inbox, the settings, and what is taken or came stay apart: the one is lent, the others are the end's and the caller's.
 
     /// Moves bytes that the user got and has not taken into `out`, and says how many.
     pub fn take(mut self, inbox: &Inbox, out: &mut [u8]) -> (Stream, usize)

@@ -4,7 +4,7 @@ ghost use Rattle.endpoint.specs.Saying.{Answers, Says};
 ghost use Rattle.endpoint.specs.Steps.{Steps};
 
 use crate::Endpoint;
-use packet::packet::Packet;
+use packet::packet::{Packet, Span};
 use table::Wanted;
 
 impl<'m> Endpoint<'m> {
@@ -30,16 +30,19 @@ impl<'m> Endpoint<'m> {
         Some(c.answer(&memory[lane].out, self.settings))
     }
 
-    /// A text that goes out because it may: from a place on, at most so many bytes. None where the place is confirmed already, or a text may not have so many.
-    pub fn send(&self, tag: u64, place: u64, most: u64) -> Option<Packet>
-        ensures { Says self.now tag place most result }
+    /// A text that goes out because it may: that of a span. None where its place is confirmed already, or a text may not have so many bytes.
+    pub fn send(&self, tag: u64, span: Span) -> Option<Packet>
+        ensures { Says self.now tag span.place span.most result }
     {
         let lane = self.table.find(Wanted::Tag(tag))?;
         let c = self.table.conns[lane];
-        if place < c.stream.sender.upto || most > self.settings.size || !c.pairing.speaks() {
+        if span.place < c.stream.sender.upto
+            || span.most > self.settings.size
+            || !c.pairing.speaks()
+        {
             return None;
         }
         let memory = &*self.memory;
-        Some(c.says(&memory[lane].out, self.settings, place, most))
+        Some(c.says(&memory[lane].out, self.settings, span))
     }
 }

@@ -42,6 +42,8 @@ impl Book {
         let _ = self.records.push(Record::new(heap, tag));
     }
 
+    // `give` and `take` differ in the bytes that they add to: one function of both would take a closure for three lines.
+
     /// Bytes that a user gave, for which there is memory.
     pub fn give(&mut self, tag: u64, bytes: &[u8])
         ensures { RoomToGive tag (length bytes.now) self.old → accounts self.new ≡ map (gave tag bytes.now) (accounts self.old) }

@@ -6,6 +6,7 @@ ghost use Rattle.lent.specs.Rings.{Waits};
 
 use crate::ring::{get, put};
 use crate::source::{Source, fill_from};
+use packet::packet::Span;
 use packet::settings::CAPACITY;
 
 /// No stream has more bytes than these.
@@ -89,17 +90,18 @@ impl Sender {
         self
     }
 
-    /// Copies the bytes from a place on into `out`, at most `most`, and says how many. Only from `upto` on does the ring have
-    /// them: what is confirmed is overwritten.
-    pub fn read(&self, ring: &[u8; CAPACITY], place: u64, most: u64, out: &mut [u8]) -> usize
-        ensures text { (g : List ℕ) → Waits self.now ring.now g → self.now.upto ≤ place → take result out.new ≡ take (min most (length out.old)) (drop place g) }
-        ensures count { result ≡ min (min most (length out.old)) (self.now.given - place) }
+    /// Copies the bytes of a span into `out`, and says how many. Only from `upto` on does the ring have them: what is confirmed is
+    /// overwritten.
+    pub fn read(&self, ring: &[u8; CAPACITY], span: Span, out: &mut [u8]) -> usize
+        ensures text { (g : List ℕ) → Waits self.now ring.now g → self.now.upto ≤ span.place → take result out.new ≡ take (min span.most (length out.old)) (drop span.place g) }
+        ensures count { result ≡ min (min span.most (length out.old)) (self.now.given - span.place) }
         ensures rest { drop result out.new ≡ drop result out.old }
     {
-        let n = most
+        let n = span
+            .most
             .min(out.len() as u64)
-            .min(self.given.saturating_sub(place)) as usize;
-        get(ring, place, &mut out[..n]);
+            .min(self.given.saturating_sub(span.place)) as usize;
+        get(ring, span.place, &mut out[..n]);
         n
     }
 }

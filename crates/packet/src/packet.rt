@@ -92,6 +92,13 @@ pub struct Head {
     pub edge: u64,
 }
 
+/// A part of a stream: the bytes from a place on, at most so many.
+#[derive(Clone, Copy, PartialEq, Eq, Debug)]
+pub struct Span {
+    pub place: u64,
+    pub most: u64,
+}
+
 /// A packet whose text stands in memory of someone else.
 #[derive(Clone, Copy, PartialEq, Eq, Debug)]
 pub struct PacketRef<'a> {
@@ -130,6 +137,7 @@ impl Packet {
             count: 0,
         }
     }
+
     /// The packet with its text as a slice. None where `count` is more than the buffer has.
     pub fn view(&self) -> Option<PacketRef<'_>>
         ensures { Viewed self.now result }

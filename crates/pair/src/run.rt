@@ -1,6 +1,7 @@
 use crate::report::{print_book, print_packets};
 use lanes::LANES;
 use lent::inbox::Memory;
+use packet::packet::Span;
 use packet::settings::{CAPACITY, Settings};
 use party::Fault;
 use script::line::{Call, Line, Side as Named};
@@ -73,11 +74,16 @@ fn command_of<'a>(side: Side, call: Call<'_>, bytes: &'a [u8]) -> Option<Command
         Call::Break { tag } => Some(Command::Break(side, tag)),
         Call::Due { tag } => Some(Command::Due(side, tag)),
         Call::Answer { tag } => Some(Command::Answer(side, tag)),
-        Call::Send { tag, place, count } => Some(Command::Send(side, tag, place, count)),
+        Call::Send { tag, place, count } => {
+            let span = Span { place, most: count };
+            Some(Command::Send(side, tag, span))
+        }
         Call::Forget { tag } => Some(Command::Forget(side, tag)),
         Call::Accept | Call::State { .. } => None,
     }
 }
+
+// The runtime is handed down beside the pair: a struct of both could not give the pair away to be begun anew.
 
 /// Makes one step, and prints its answer and what went out.
 fn make(rt: &HostRuntime, pair: &mut Simulation<'_>, command: Command<'_>) -> anyhow::Result<()> {

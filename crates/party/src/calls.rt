@@ -13,7 +13,7 @@ use lanes::LANES;
 use ledger::book::Book;
 use ledger::record::{Record, View};
 use lent::inbox::Memory;
-use packet::packet::Packet;
+use packet::packet::{Packet, Span};
 use packet::settings::Settings;
 use std::alloc::Global;
 
@@ -34,6 +34,9 @@ fn note_all(end: &Endpoint<'_>, records: &mut Vec<Record>)
         note(end, account);
     }
 }
+
+// A tag is the first argument of a call at every layer, as memory and settings are of what makes an end: a struct of it and the bytes
+// beside it would be made for each call only to be taken apart.
 
 impl<'m> Party<'m> {
     fn look_around(&mut self)
@@ -94,10 +97,10 @@ impl<'m> Party<'m> {
     }
 
     /// A text that goes out because it may.
-    pub fn send(&self, tag: u64, place: u64, most: u64) -> Option<Packet>
-        ensures { Said self.now tag place most result }
+    pub fn send(&self, tag: u64, span: Span) -> Option<Packet>
+        ensures { Said self.now tag span.place span.most result }
     {
-        self.end.send(tag, place, most)
+        self.end.send(tag, span)
     }
 
     pub fn listen(&mut self, on: bool)

@@ -7,7 +7,7 @@ use lent::inbox::Memory;
 use lent::incoming::Incoming;
 use lent::receiver::Receiver;
 use lent::sender::{MOST, Sender};
-use packet::packet::{Kind, Packet, PacketRef};
+use packet::packet::{Kind, Packet, PacketRef, Span};
 
 const TEXT: usize = 1024;
 
@@ -33,7 +33,11 @@ fn carry(texts: u64) -> u64
         if place > MOST {
             return right;
         }
-        let n = given.read(&memory.out, place, TEXT as u64, &mut packet);
+        let span = Span {
+            place,
+            most: TEXT as u64,
+        };
+        let n = given.read(&memory.out, span, &mut packet);
         head.place = place;
         let text_ref = &packet[..n];
         let incoming = Incoming {

@@ -31,5 +31,5 @@ events p (C.Break s t) r v = when_ok (λ _. w.Breaks (who_of s) t ∷ []) r
 events p (C.Forget s t) r v = when_ok (λ _. w.Forgets (who_of s) t ∷ []) r
 events p (C.Due s t) r v = when_ok (λ _. w.Due (who_of s) t ∷ []) r
 events p (C.Answer s t) r v = when_ok (λ _. answers p (who_of s) t v) r
-events p (C.Send s t q k) r v = when_ok (λ _. sends p (who_of s) t q k v) r
+events p (C.Send s t part) r v = when_ok (λ _. sends p (who_of s) t part.place part.most v) r
 events p (C.Deliver s i t) r v = when_ok (λ a. w.Hears (who_of s) (count a) t ∷ []) r

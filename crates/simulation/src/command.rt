@@ -1,4 +1,5 @@
 use crate::pair::Side;
+use packet::packet::Span;
 
 /// A line of a script: a call of a user, a due moment, or a packet that the net brings.
 #[derive(Clone, Copy, PartialEq, Eq, Debug)]
@@ -16,8 +17,8 @@ pub enum Command<'a> {
     Due(Side, u64),
     /// The answer to a text that was heard.
     Answer(Side, u64),
-    /// A text that goes out because it may, from a place on, with at most so many bytes.
-    Send(Side, u64, u64, u64),
+    /// A text that goes out because it may: that of a span.
+    Send(Side, u64, Span),
     /// The packet at a place among all that were ever sent to a side, the oldest first, with a tag drawn for the connection that it
     /// may open, or 0.
     Deliver(Side, usize, u64),

@@ -7,7 +7,7 @@ ghost use Rattle.simulation.specs.Shows.{Begins, HalfDoes, answer_of, net_of, se
 
 use lanes::LANES;
 use lent::inbox::Memory;
-use packet::packet::Packet;
+use packet::packet::{Packet, Span};
 use packet::settings::Settings;
 use party::{Fault, Party};
 use std::alloc::Global;
@@ -104,11 +104,11 @@ impl<'m> Half<'m> {
     }
 
     /// A text goes out because it may.
-    pub(crate) fn send(&mut self, tag: u64, place: u64, most: u64) -> Result<(), Fault>
-        ensures { (came : List Packet) (ts : List ℕ) → HalfDoes self.old self.new came ts ts (λ o w. when_ok (λ _. send_of self.old.party o tag place most w) result) }
+    pub(crate) fn send(&mut self, tag: u64, span: Span) -> Result<(), Fault>
+        ensures { (came : List Packet) (ts : List ℕ) → HalfDoes self.old self.new came ts ts (λ o w. when_ok (λ _. send_of self.old.party o tag span.place span.most w) result) }
     {
         self.sent.reserve(1)?;
-        post(&mut self.sent, self.party.send(tag, place, most));
+        post(&mut self.sent, self.party.send(tag, span));
         Ok(())
     }
 

@@ -8,9 +8,12 @@ use crate::half::Half;
 use crate::pair::{Pair, Side, Sides};
 use lanes::LANES;
 use lent::inbox::Memory;
+use packet::packet::Span;
 use packet::settings::Settings;
 use party::Fault;
 use std::alloc::Global;
+
+// A side and a tag stay two parameters here: each function takes them apart at once, the half by the one, its connection by the other.
 
 impl<'m> Pair<'m> {
     pub fn new(
@@ -97,10 +100,10 @@ impl<'m> Pair<'m> {
         self.halves.get_mut(side).answer(tag)
     }
 
-    pub fn send(&mut self, side: Side, tag: u64, place: u64, most: u64) -> Result<(), Fault>
-        ensures { Does self.old self.new (λ w. when_ok (λ _. sends self.old (who_of side) tag place most w) result) }
+    pub fn send(&mut self, side: Side, tag: u64, span: Span) -> Result<(), Fault>
+        ensures { Does self.old self.new (λ w. when_ok (λ _. sends self.old (who_of side) tag span.place span.most w) result) }
     {
-        self.halves.get_mut(side).send(tag, place, most)
+        self.halves.get_mut(side).send(tag, span)
     }
 
     /// The net brings a packet, by its place among all that were ever sent that way; `draws` is the tag of the connection that

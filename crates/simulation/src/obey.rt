@@ -34,7 +34,7 @@ impl<'m> Pair<'m> {
             Command::Forget(side, tag) => done(self.forget(side, tag)),
             Command::Due(side, tag) => done(self.due(side, tag)),
             Command::Answer(side, tag) => done(self.answer(side, tag)),
-            Command::Send(side, tag, place, most) => done(self.send(side, tag, place, most)),
+            Command::Send(side, tag, span) => done(self.send(side, tag, span)),
             Command::Deliver(side, i, draws) => self.deliver(side, i, draws).map(Answer::Heard),
         }
     }

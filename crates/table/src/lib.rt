@@ -18,6 +18,7 @@ pub struct Table {
 }
 
 /// The connection that a search is for.
+// A name for each search and no closure: contracts above name the search, and a closure would carry its clauses to each call.
 #[derive(Clone, Copy, PartialEq, Eq, Debug)]
 pub enum Wanted {
     /// It has this tag and is not gone.

@@ -28,6 +28,8 @@ pub fn strip<'a>(line: &'a [u8], word: &[u8]) -> Result<&'a [u8], &'a [u8]>
     }
 }
 
+// A line and the largest number that may stand there are two arguments of one reader; the fact that the answer is at most that is two words.
+
 /// The number of the digits at the front of `line`, and what stands behind them; else the part of `line` from the
 /// digit by which the number passes `most`.
 fn digits<'a>(line: &'a [u8], most: u64) -> Result<(u64, &'a [u8]), &'a [u8]>

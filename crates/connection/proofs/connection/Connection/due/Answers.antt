@@ -5,4 +5,4 @@ use Rattle.connection.proofs.Texts.{due_is}
 use Rattle.connection.proofs.connection.Connection.due.Goals as goal
 
 pub returns : goal.returns
-returns c = due_is (cfg_of c.args.settings) c.args.self.now c.args.ring.now c.max.result (packet c.text.result) c.args.settings.short (omega arith) c.text.ensures
+returns c = due_is (cfg_of c.args.settings) c.args.self.now c.args.ring.now c.max-most.result (packet c.text.result) c.args.settings.short (omega arith) c.text.ensures

@@ -29,7 +29,7 @@ pub returns-in-Answer : goal.returns-in-Answer
 returns-in-Answer c = rw c.in-Answer.is (done_when c.args.self.now _ (answers c.args.self.now (who_of c.in-Answer.side) c.in-Answer.tag) _ _ c.done-in-Answer.ensures (search rules))
 
 pub returns-in-Send : goal.returns-in-Send
-returns-in-Send c = rw c.in-Send.is (done_when c.args.self.now _ (sends c.args.self.now (who_of c.in-Send.side) c.in-Send.tag c.in-Send.place c.in-Send.most) _ _ c.done-in-Send.ensures (search rules))
+returns-in-Send c = rw c.in-Send.is (done_when c.args.self.now _ (sends c.args.self.now (who_of c.in-Send.side) c.in-Send.tag c.in-Send.span.place c.in-Send.span.most) _ _ c.done-in-Send.ensures (search rules))
 
 pub returns-in-Give : goal.returns-in-Give
 returns-in-Give c = rw c.in-Give.is (told_when c.args.self.now _ (λ n. Gives (who_of c.in-Give.side) c.in-Give.tag (take n c.in-Give.bytes.now) ∷ []) (λ a. Gives (who_of c.in-Give.side) c.in-Give.tag (take (count a) c.in-Give.bytes.now) ∷ []) Gave c.give.result _ c.map.ensures.cases (λ _. refl) c.give.ensures)
