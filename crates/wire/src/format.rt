@@ -1,4 +1,4 @@
-ghost use Rattle.std.specs.Prelude.{◌≡◌, ℕ, ◌+◌, ◌^◌, ◌<◌, ◌≤◌, Bool, true, false, ◌++◌, length, take, drop, Some, None, MatchResult};
+ghost use Rattle.std.specs.Prelude.{◌≡◌, ℕ, ◌+◌, ◌^◌, ◌<◌, ◌≤◌, true, false, ◌++◌, length, take, drop, Some, None, MatchResult};
 ghost use Rattle.crc32c.specs.Crc.{Bytes};
 ghost use Rattle.packet.specs.Packets.{kind_of, packet_in};
 ghost use Rattle.packet.specs.Sizes.{text_size};
