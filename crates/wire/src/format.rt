@@ -1,4 +1,4 @@
-ghost use Rattle.std.specs.Prelude.{◌≡◌, ℕ, ◌+◌, ◌^◌, ◌<◌, ◌≤◌, Bool, true, false, ◌++◌, length, take, drop, Some, None, MatchResult};
+ghost use Rattle.std.specs.Prelude.{◌≡◌, ℕ, ◌+◌, ◌^◌, ◌<◌, ◌≤◌, true, false, ◌++◌, length, take, drop, Some, None, MatchResult};
 ghost use Rattle.crc32c.specs.Crc.{Bytes};
 ghost use Rattle.packet.specs.Packets.{kind_of, packet_in};
 ghost use Rattle.packet.specs.Sizes.{text_size};
@@ -6,6 +6,7 @@ ghost use Rattle.wire.specs.Format.{Written, check_fits, decode, decode_fields, 
 ghost use Rattle.wire.specs.Laws.{Fits, ReadsBack, WasWritten};
 ghost use Rattle.wire.specs.Numbers.{number16};
 ghost use Rattle.wire.specs.Reading.{read_of};
+ghost use Rattle.wire.specs.declared.fault.Fault.TheVariants.{Shape};
 
 use crate::fault::{Fault, WriteError};
 use crate::numbers::{array_at, number_at};
@@ -68,66 +69,69 @@ fn check_fields(p: PacketRef<'_>) -> Result<(), Fault>
     Ok(())
 }
 
-/// How many bytes of text the header says.
-fn count_in(bytes: &[u8]) -> usize
-    requires { frame ≤ length bytes.now }
-    ensures { result ≡ number16 bytes.now 2 }
-{
-    usize::from(u16::from_be_bytes(array_at(bytes, 2)))
+/// Bytes of the length that their count says.
+#[derive(Clone, Copy)]
+struct Frame<'a> {
+    bytes: &'a [u8],
+    /// How many of them are text.
+    count: usize,
+    ghost counted: { count ≡ number16 bytes.now 2 },
+    ghost long: { length bytes.now ≡ frame + count },
 }
 
-fn length_fits(bytes: &[u8]) -> bool
-    ensures { result ≡ length_fits bytes.now }
-{
-    if bytes.len() < FRAME {
-        return false;
+impl<'a> Frame<'a> {
+    fn new(bytes: &'a [u8]) -> Result<Self, Fault>
+        ensures { MatchResult result (λ f. (f.bytes.now ≡ bytes.now) × (length_fits bytes.now ≡ true)) (λ fault. (fault ≡ Shape) × (length_fits bytes.now ≡ false)) }
+    {
+        if bytes.len() < FRAME {
+            return Err(Fault::Shape);
+        }
+        let count = usize::from(u16::from_be_bytes(array_at(bytes, 2)));
+        if count > SIZE || bytes.len() != FRAME + count {
+            return Err(Fault::Shape);
+        }
+        Ok(Frame { bytes, count })
     }
-    let count = count_in(bytes);
-    count <= SIZE && bytes.len() == FRAME + count
-}
 
-fn check_fits(bytes: &[u8]) -> bool
-    requires { frame ≤ length bytes.now }
-    ensures { result ≡ check_fits bytes.now }
-{
-    let end = bytes.len() - 4;
-    u32::from_be_bytes(array_at(bytes, end)) == crc32c(&bytes[..end])
-}
-
-/// The fields as they stand.
-fn fields_of(kind: Kind, bytes: &[u8]) -> PacketRef<'_>
-    requires long { frame ≤ length bytes.now }
-    requires fits { length_fits bytes.now ≡ true }
-    ensures { packet_in result ≡ fields_of kind bytes.now }
-{
-    let head = Head {
-        kind,
-        from: number_at(bytes, 4),
-        to: number_at(bytes, 12),
-        place: number_at(bytes, 20),
-        last: bytes[1] & 1 == 1,
-        upto: number_at(bytes, 28),
-        all: (bytes[1] >> 1) & 1 == 1,
-        edge: number_at(bytes, 36),
-    };
-    let end = HEADER + count_in(bytes);
-    PacketRef {
-        head,
-        text: &bytes[HEADER..end],
+    fn check_fits(self) -> bool
+        ensures { result ≡ check_fits self.entry.bytes.now }
+    {
+        let end = self.bytes.len() - 4;
+        u32::from_be_bytes(array_at(self.bytes, end)) == crc32c(&self.bytes[..end])
     }
-}
 
-fn read_fields(kind: Kind, bytes: &[u8]) -> Result<PacketRef<'_>, Fault>
-    requires long { frame ≤ length bytes.now }
-    requires fits { length_fits bytes.now ≡ true }
-    ensures { read_of result ≡ decode_fields kind bytes.now }
-{
-    if bytes[1] > 3 {
-        return Err(Fault::Zero);
+    /// The fields as they stand.
+    fn fields_of(self, kind: Kind) -> PacketRef<'a>
+        ensures { packet_in result ≡ fields_of kind self.entry.bytes.now }
+    {
+        let bytes = self.bytes;
+        let head = Head {
+            kind,
+            from: number_at(bytes, 4),
+            to: number_at(bytes, 12),
+            place: number_at(bytes, 20),
+            last: bytes[1] & 1 == 1,
+            upto: number_at(bytes, 28),
+            all: (bytes[1] >> 1) & 1 == 1,
+            edge: number_at(bytes, 36),
+        };
+        let end = HEADER + self.count;
+        PacketRef {
+            head,
+            text: &bytes[HEADER..end],
+        }
     }
-    let p = fields_of(kind, bytes);
-    check_fields(p)?;
-    Ok(p)
+
+    fn read_fields(self, kind: Kind) -> Result<PacketRef<'a>, Fault>
+        ensures { read_of result ≡ decode_fields kind self.entry.bytes.now }
+    {
+        if self.bytes[1] > 3 {
+            return Err(Fault::Zero);
+        }
+        let p = self.fields_of(kind);
+        check_fields(p)?;
+        Ok(p)
+    }
 }
 
 /// The packet that bytes are, with its text as a part of them, or their first fault.
@@ -135,15 +139,15 @@ pub fn read(bytes: &[u8]) -> Result<PacketRef<'_>, Fault>
     ensures read { read_of result ≡ decode bytes.now }
     ensures written { WasWritten bytes.now (read_of result) }
 {
-    let first = bytes.first().ok_or(Fault::Shape)?;
-    let kind = Kind::try_from(*first)?;
-    if !length_fits(bytes) {
+    let Some(first) = bytes.first() else {
         return Err(Fault::Shape);
-    }
-    if !check_fits(bytes) {
+    };
+    let kind = Kind::try_from(*first)?;
+    let frame = Frame::new(bytes)?;
+    if !frame.check_fits() {
         return Err(Fault::Check);
     }
-    read_fields(kind, bytes)
+    frame.read_fields(kind)
 }
 
 fn flags_of(last: bool, all: bool) -> u8
