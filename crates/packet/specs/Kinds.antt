@@ -1,5 +1,5 @@
--- The byte that stands for a kind.
-use Rattle.std.specs.Prelude.{◌≡◌, ℕ, cond, Some, None, Option, Result, ◌==◌, MatchResult}
+-- The byte that stands for a kind, and its name.
+use Rattle.std.specs.Prelude.{◌≡◌, ℕ, codes, cond, List, Some, None, Option, Result, ◌==◌, MatchResult}
 use Rattle.hold.specs.Packet as m
 use Rattle.packet.specs.declared.packet.Kind.{Kind}
 use Rattle.packet.specs.declared.packet.Kind.TheVariants.{Ask, Yes, Text, Bye}
@@ -17,3 +17,9 @@ kind_in b = cond (b == 1) (Some Ask) (cond (b == 2) (Some Yes) (cond (b == 3) (S
 -- the kind that a byte stands for, or the byte that stands for none
 abbrev pub KindIn : ℕ → Result Kind UnknownKind → Type 0
 KindIn b r = MatchResult r (λ k. Some k ≡ kind_in b) (λ e. (e.0 ≡ b) × (None ≡ kind_in b))
+
+abbrev pub kind_name : Kind → List ℕ
+kind_name Ask = codes "ask"
+kind_name Yes = codes "yes"
+kind_name Text = codes "text"
+kind_name Bye = codes "bye"

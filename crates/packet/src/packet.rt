@@ -1,6 +1,6 @@
-ghost use Rattle.std.specs.Prelude.{◌≡◌};
+ghost use Rattle.std.specs.Prelude.{◌≡◌, ◌++◌, codes, decimal, Some};
 ghost use Rattle.hold.specs.Packet.{bare};
-ghost use Rattle.packet.specs.Kinds.{KindIn, kind_number};
+ghost use Rattle.packet.specs.Kinds.{KindIn, kind_name, kind_number};
 ghost use Rattle.packet.specs.Packets.{Viewed, packet, kind_of};
 
 use std::error::Error;
@@ -54,6 +54,8 @@ impl TryFrom<u8> for Kind {
 }
 
 impl fmt::Display for Kind {
+    ghost output = { λ kind. Some (kind_name kind) };
+
     fn fmt<W: fmt::Write>(&self, f: &mut fmt::Formatter<W>) -> fmt::Result {
         f.write_str(match self {
             Kind::Ask => "ask",
@@ -65,6 +67,8 @@ impl fmt::Display for Kind {
 }
 
 impl fmt::Display for UnknownKind {
+    ghost output = { λ kind. Some (codes "no kind of packet has the number " ++ decimal kind.0) };
+
     fn fmt<W: fmt::Write>(&self, f: &mut fmt::Formatter<W>) -> fmt::Result {
         write!(f, "no kind of packet has the number {}", self.0)
     }

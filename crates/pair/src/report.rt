@@ -41,6 +41,7 @@ pub fn print_packets(
     Ok(())
 }
 
+// No `Display`: a `bool` has one already, which says `true` and `false`.
 fn yes_no(b: bool) -> &'static str {
     if b { "yes" } else { "no" }
 }

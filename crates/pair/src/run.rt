@@ -98,6 +98,7 @@ fn act(
     side: Side,
     call: Call<'_>,
 ) -> anyhow::Result<()> {
+    // What a word of data stands for, in a fixed buffer: `decode` fills one, and so cannot fail.
     let mut bytes = [0; 1024];
     let count = match call {
         Call::Give { encoded, .. } => decode(encoded, &mut bytes),

@@ -46,7 +46,7 @@ impl From<Refusal> for Fault {
     ghost from_gives = { λ refusal fault. fault ≡ Refused refusal };
 
     fn from(refusal: Refusal) -> Fault {
-        Fault::Refused(refusal)
+        Self::Refused(refusal)
     }
 }
 
@@ -54,6 +54,6 @@ impl From<AllocError> for Fault {
     ghost from_gives = { λ _ fault. fault ≡ Memory };
 
     fn from(_error: AllocError) -> Fault {
-        Fault::Memory
+        Self::Memory
     }
 }

@@ -17,6 +17,7 @@ fn post(net: &mut Vec<Packet>, p: Option<Packet>)
     ensures { RoomFor 1 net.old → net_of net.new.items ≡ sent p ++ net_of net.old.items }
 {
     if let Some(p) = p {
+        // There is memory, so it cannot fail; an error here would come after the step.
         let _ = net.push(p);
     }
 }
@@ -65,6 +66,7 @@ impl<'m> Half<'m> {
         drawn.reserve(1)?;
         self.sent.reserve(1)?;
         let p = self.party.open(tag)?;
+        // There is memory, so it cannot fail.
         let _ = drawn.push(tag);
         post(&mut self.sent, Some(p));
         Ok(())
@@ -80,6 +82,7 @@ impl<'m> Half<'m> {
         drawn.reserve(1)?;
         self.sent.reserve(1)?;
         let answer = self.party.hear(p, draws)?;
+        // There is memory, so it cannot fail.
         let _ = drawn.push(draws);
         post(&mut self.sent, answer);
         Ok(())

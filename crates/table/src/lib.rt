@@ -11,7 +11,7 @@ use lanes::{LANES, Lanes};
 
 #[derive(Drop)]
 pub struct Table {
-    /// By lane.
+    /// By lane, beside the memory that is lent for each: this is the end's own, and no heap could hold both.
     pub conns: [Connection; LANES],
     pub lanes: Lanes,
     ghost sized: { length conns ≡ LANES },

@@ -2,3 +2,4 @@ pub mod Numbers
 pub mod Format
 pub mod Reading
 pub mod Laws
+pub mod Texts

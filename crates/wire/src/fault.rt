@@ -1,4 +1,4 @@
-ghost use Rattle.std.specs.Prelude.{◌≡◌};
+ghost use Rattle.std.specs.Prelude.{◌≡◌, Some};
 ghost use Rattle.wire.specs.Format.{fault_number};
 ghost use Rattle.wire.specs.declared.fault.Fault.TheVariants.{Shape};
 
@@ -42,6 +42,10 @@ impl From<UnknownKind> for Fault {
 }
 
 impl fmt::Display for Fault {
+    ghost use Rattle.wire.specs.Texts.{fault_text};
+
+    ghost output = { λ fault. Some (fault_text fault) };
+
     fn fmt<W: fmt::Write>(&self, f: &mut fmt::Formatter<W>) -> fmt::Result {
         f.write_str(match self {
             Fault::Shape => "no known kind, or another length than the count says",
@@ -76,6 +80,10 @@ impl From<Fault> for WriteError {
 }
 
 impl fmt::Display for WriteError {
+    ghost use Rattle.wire.specs.Texts.{error_text};
+
+    ghost output = { λ error. Some (error_text error) };
+
     fn fmt<W: fmt::Write>(&self, f: &mut fmt::Formatter<W>) -> fmt::Result {
         match self {
             WriteError::LongText => write!(f, "the text is too long"),
