@@ -1,32 +1,21 @@
 ghost use Rattle.std.specs.Prelude.{◌≡◌, ℕ, ◌+◌, ◌≤◌, ◌&&◌, ◌||◌, List, [], length, ◌==◌};
 ghost use Rattle.hold.specs.Packet.{Bye, Text, Yes};
 ghost use Rattle.packet.specs.Packets.{packet_in, packet_of, sent};
-ghost use Rattle.endpoint.specs.Hearing.{Asked, HeardAs, Refuses, needs, too_far, zero_tag};
+ghost use Rattle.endpoint.specs.Hearing.{Asked, HeardAs, Refuses, needs, zero_tag};
 ghost use Rattle.endpoint.specs.Steps.{Heard};
 
 use crate::{Endpoint, Refusal};
 use connection::connection::Connection;
 use connection::phase::Phase;
 use lent::incoming::Incoming;
-use lent::sender::MOST;
 use packet::packet::{Head, Kind, Packet, PacketRef, SIZE};
-use packet::settings::CAPACITY;
 use table::Wanted;
-
-/// The largest edge of a stream: all its bytes, and the largest window.
-const LAST_EDGE: u64 = MOST + CAPACITY as u64;
 
 /// Whether a tag is 0 that must not be: the sender's, the receiver's unless it is asked, and the drawn one where it is needed.
 fn lacks_tag(p: Head, needed: bool, tag: u64) -> bool
     ensures { (ts : List ℕ) → result ≡ (zero_tag (packet_of p ts) || (needed && tag == 0)) }
 {
     (needed && tag == 0) || p.from == 0 || (p.kind != Kind::Ask && p.to == 0)
-}
-
-fn is_too_far(p: Head) -> bool
-    ensures { (ts : List ℕ) → result ≡ too_far (packet_of p ts) }
-{
-    p.place > MOST || p.upto > MOST || p.edge > LAST_EDGE
 }
 
 impl<'m> Endpoint<'m> {
@@ -109,7 +98,7 @@ impl<'m> Endpoint<'m> {
         if lacks_tag(p.head, needed, tag) {
             return Err(Refusal::ZeroTag);
         }
-        if is_too_far(p.head) {
+        if p.head.is_beyond() {
             return Err(Refusal::TooFar);
         }
         if !needed {
@@ -123,6 +112,8 @@ impl<'m> Endpoint<'m> {
         }
         Ok(())
     }
+
+    // The drawn tag is a number and no Option: 0 is none, and a caller who hands it in where one is needed is told so by a refusal.
 
     /// A packet is heard, with a tag drawn for the connection that it may open; and what goes out at once.
     pub fn hear(&mut self, p: PacketRef<'_>, tag: u64) -> Result<Option<Packet>, Refusal>

@@ -1,7 +1,7 @@
 -- Laws of a ring that is written and read.
 use Rattle.std.proofs.Common.{◌≡◌, ℕ, zero, suc, ◌+◌, ◌-◌, ◌%◌, ◌<◌, ◌≤◌, cond, ltb, ◌⊎◌, List, [], ◌∷◌, ◌++◌, length, get_or, take, drop, set, sym, refl, ap, ◌∙◌, ⊎_elim, append_assoc, add-zero, suc-add, zero-add, arith, length-set, take-append-drop, take-add}
 use borrow.Rule.Slice.PartMut.{put_mid}
-use Rattle.std.proofs.lemmas.List.{take_more_set, drop-set-lt, drop-drop, length-take, drop_all, length-drop, length-take-le, drop-append-le, drop_more, append-nil, get_or-set_same, get_or-set_other, nil_from_length}
+use Rattle.std.proofs.lemmas.List.{take_more_set, drop-set-lt, drop-drop, take_at, drop_at, length-take, drop_all, length-drop, length-take-le, drop-append-le, drop_more, append-nil, get_or-set_same, get_or-set_other}
 use Rattle.std.proofs.lemmas.Bool.{cases_eq, lt-ltb, le-ltb, cond-true, cond-false}
 use Rattle.packet.specs.Sizes.{capacity}
 use Rattle.lent.specs.Ring.{written, held}
@@ -141,14 +141,19 @@ held_at p (suc n) m (suc i) l = let e : p + 1 + i ≡ p + suc i = omega arith in
 pub held_one : (p a n : ℕ) (m : List ℕ) → a ≡ p % capacity → a + n ≤ capacity → length m ≡ capacity → take n (drop a m) ≡ held p n m
 held_one p a n m ea le size = sym (held_part p a n m (λ _. sym ea) le size)
 
--- the bytes up to the ring's end, and those from its start on
-pub held_parts : (p a n j k all : ℕ) (m part rest : List ℕ) → a ≡ p % capacity → a + n ≤ capacity → length m ≡ capacity → j ≡ n → part ≡ take j (drop a m) → rest ≡ held (p + n) k m → all ≡ n + k → part ++ rest ≡ held p all m
-held_parts p a n j k all m part rest ea le size ej e1 e2 el = rw (e1, e2, ej, el) (ap (λ (xs : List ℕ). xs ++ held (p + n) k m) (held_one p a n m ea le size) ∙ sym (held-append p n k m))
+-- a list is filled with what the ring holds, n bytes more
+pub held_more : (p a d n k : ℕ) (m before out part : List ℕ) → a ≡ (p + d) % capacity → a + n ≤ capacity → k ≡ n → d + n ≤ length before → length m ≡ capacity → out ≡ held p d m ++ drop d before → part ≡ take n (drop a m) →
+    put_mid d k out part ≡ held p (d + n) m ++ drop (d + n) before
+held_more p a d n k m before out part ea le ek fits size eo ep =
+    let front : take d out ≡ held p d m = ap (take d) eo ∙ take_at (held p d m) (drop d before) d (length-held p d m) in
+    let back : drop d out ≡ drop d before = ap (drop d) eo ∙ drop_at (held p d m) (drop d before) d (length-held p d m) in
+    let rest : drop k (drop d out) ≡ drop (d + n) before = ap (λ (i : ℕ). drop i (drop d out)) ek ∙ ap (drop n) back ∙ drop-drop n d before in
+    ap (λ (xs : List ℕ). xs ++ (part ++ drop k (drop d out))) front ∙ ap (λ (xs : List ℕ). held p d m ++ (part ++ xs)) rest ∙
+    ap (λ (xs : List ℕ). held p d m ++ (xs ++ drop (d + n) before)) (ep ∙ held_one (p + d) a n m ea le size) ∙ sym (append_assoc (held p d m) (held (p + d) n m) (drop (d + n) before)) ∙
+    sym (ap (λ (xs : List ℕ). xs ++ drop (d + n) before) (held-append p d n m))
 
--- no bytes
-pub held_none : (p : ℕ) (m rest : List ℕ) → length rest ≡ 0 → rest ≡ held p 0 m
-unfolding held
-held_none p m rest e = nil_from_length rest e
+pub held_all : (p d : ℕ) (m before out : List ℕ) → d ≡ length before → out ≡ held p d m ++ drop d before → out ≡ held p (length before) m
+held_all p d m before out e eo = eo ∙ ap (λ (xs : List ℕ). held p d m ++ xs) (drop_all d before (omega arith)) ∙ append-nil (held p d m) ∙ ap (λ (n : ℕ). held p n m) e
 
 -- the front of a list, filled
 pub filled : (p n : ℕ) (m out part : List ℕ) → n ≤ length out → part ≡ held p (length (take n out)) m → part ≡ held p n m

@@ -28,10 +28,13 @@ pub fn get(ring: &[u8; CAPACITY], place: u64, out: &mut [u8])
     requires { place + length out.old < 2 ^ 64 }
     ensures { out.new ≡ held place (length out.old) ring.now }
 {
-    let at = slot(place);
-    let (part, rest) = out.split_at_mut(out.len().min(CAPACITY - at));
-    part.copy_from_slice(&ring[at..at + part.len()]);
-    if !rest.is_empty() {
-        get(ring, place + part.len() as u64, rest);
+    let mut done = 0;
+    // Parts end where the ring does: of `chunks_mut` a proof knows no byte afterwards, and a call of itself for the rest would
+    // take a stack as deep as `out` is long.
+    while done < out.len() {
+        let at = slot(place + done as u64);
+        let n = (CAPACITY - at).min(out.len() - done);
+        out[done..done + n].copy_from_slice(&ring[at..at + n]);
+        done += n;
     }
 }

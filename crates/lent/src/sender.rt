@@ -6,11 +6,11 @@ ghost use Rattle.lent.specs.Rings.{Waits};
 
 use crate::ring::{get, put};
 use crate::source::{Source, fill_from};
-use packet::packet::Span;
+use packet::packet::{MOST_PLACE, Span};
 use packet::settings::CAPACITY;
 
 /// No stream has more bytes than these.
-pub const MOST: u64 = 1 << 62;
+pub const MOST: u64 = MOST_PLACE;
 
 /// The numbers of the bytes to be sent: those given and not confirmed stand in the ring.
 #[derive(Clone, Copy, PartialEq, Eq, Debug)]

@@ -2,3 +2,4 @@ pub mod Sizes
 pub mod Packets
 pub mod Kinds
 pub mod Agreed
+pub mod Places

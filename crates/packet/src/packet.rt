@@ -2,12 +2,20 @@ ghost use Rattle.std.specs.Prelude.{◌≡◌, ◌++◌, codes, decimal, Some};
 ghost use Rattle.hold.specs.Packet.{bare};
 ghost use Rattle.packet.specs.Kinds.{KindIn, kind_name, kind_number};
 ghost use Rattle.packet.specs.Packets.{Viewed, packet, kind_of};
+ghost use Rattle.packet.specs.Places.{beyond};
 
+use crate::settings::CAPACITY;
 use std::error::Error;
 use std::fmt;
 
 /// Most bytes of one text.
 pub const SIZE: usize = 1024;
+
+/// No place of a stream is beyond this.
+pub const MOST_PLACE: u64 = 1 << 62;
+
+/// No edge is beyond this.
+pub const MOST_EDGE: u64 = MOST_PLACE + CAPACITY as u64;
 
 /// What a packet is: an ask opens a connection (a SYN), a yes answers it (a SYN-ACK), a text brings bytes and
 /// acknowledgements, a bye ends a connection (a RST).
@@ -94,6 +102,15 @@ pub struct Head {
     pub all: bool,
     /// Right edge of the advertised window.
     pub edge: u64,
+}
+
+impl Head {
+    /// Whether its place, upto or edge is one that no stream has.
+    pub fn is_beyond(self) -> bool
+        ensures { result ≡ beyond self.place self.upto self.edge }
+    {
+        self.place > MOST_PLACE || self.upto > MOST_PLACE || self.edge > MOST_EDGE
+    }
 }
 
 /// A part of a stream: the bytes from a place on, at most so many.

@@ -1,20 +1,15 @@
 use crate::report::{print_book, print_packets};
 use lanes::LANES;
 use lent::inbox::Memory;
-use packet::packet::Span;
+use packet::packet::{SIZE, Span};
 use packet::settings::{CAPACITY, Settings};
 use party::Fault;
 use script::line::{Call, Line, Side as Named};
 use script::read::read;
 use simulation::Simulation;
 use simulation::command::{Answer, Command};
-use simulation::pair::Side;
-use text::data::decode;
-
-/// Bytes for which a connection has room, and most bytes of one text, where the script does not say.
-const ROOM: u64 = CAPACITY as u64;
-
-const SIZE: u64 = 1024;
+use simulation::pair::{Side, Sides};
+use text::data::{MOST, decode};
 
 // No `From`: both types are other crates'.
 fn side_of(side: Named) -> Side {
@@ -25,25 +20,21 @@ fn side_of(side: Named) -> Side {
 }
 
 /// How many packets were sent to each side.
-#[derive(Clone, Copy)]
-struct Sent {
-    left: usize,
-    right: usize,
+fn sent_so_far(pair: &Simulation<'_>) -> Sides<usize> {
+    Sides {
+        left: pair.sent_to(Side::Left).len(),
+        right: pair.sent_to(Side::Right).len(),
+    }
 }
 
-impl Sent {
-    fn to_sides(pair: &Simulation<'_>) -> Sent {
-        Sent {
-            left: pair.sent_to(Side::Left).len(),
-            right: pair.sent_to(Side::Right).len(),
-        }
-    }
-
-    /// Prints what was sent since.
-    fn print_later(self, rt: &HostRuntime, pair: &Simulation<'_>) -> anyhow::Result<()> {
-        print_packets(rt, "L", pair.sent_to(Side::Left), self.left)?;
-        print_packets(rt, "R", pair.sent_to(Side::Right), self.right)
-    }
+/// Prints what was sent to each side since.
+fn print_later(
+    rt: &HostRuntime,
+    pair: &Simulation<'_>,
+    before: Sides<usize>,
+) -> anyhow::Result<()> {
+    print_packets(rt, "L", pair.sent_to(Side::Left), before.left)?;
+    print_packets(rt, "R", pair.sent_to(Side::Right), before.right)
 }
 
 fn print_refused(rt: &HostRuntime, fault: Fault) -> anyhow::Result<()> {
@@ -87,9 +78,9 @@ fn command_of<'a>(side: Side, call: Call<'_>, bytes: &'a [u8]) -> Option<Command
 
 /// Makes one step, and prints its answer and what went out.
 fn make(rt: &HostRuntime, pair: &mut Simulation<'_>, command: Command<'_>) -> anyhow::Result<()> {
-    let before = Sent::to_sides(pair);
+    let before = sent_so_far(pair);
     print_answer(rt, pair.step(command))?;
-    before.print_later(rt, pair)
+    print_later(rt, pair, before)
 }
 
 fn act(
@@ -99,7 +90,7 @@ fn act(
     call: Call<'_>,
 ) -> anyhow::Result<()> {
     // What a word of data stands for, in a fixed buffer: `decode` fills one, and so cannot fail.
-    let mut bytes = [0; 1024];
+    let mut bytes = [0; MOST];
     let count = match call {
         Call::Give { encoded, .. } => decode(encoded, &mut bytes),
         _ => 0,
@@ -112,12 +103,12 @@ fn act(
 
 /// Makes the moves that bring over all that a connection has still to get, and prints how many and what went out.
 fn carry(rt: &HostRuntime, pair: &mut Simulation<'_>, side: Side, tag: u64) -> anyhow::Result<()> {
-    let before = Sent::to_sides(pair);
+    let before = sent_so_far(pair);
     match pair.carry(side, tag) {
         Ok(n) => println!(rt; "  all is there after {n} moves")?,
         Err(fault) => print_refused(rt, fault)?,
     }
-    before.print_later(rt, pair)
+    print_later(rt, pair, before)
 }
 
 /// Does what a line says.
@@ -150,7 +141,8 @@ fn settings_of(line: Line<'_>) -> Option<Settings> {
 
 /// Reads a script to its end or its first fault, and does each line as it comes.
 pub fn run(rt: &HostRuntime) -> anyhow::Result<()> {
-    let Some(settings) = Settings::new(ROOM, SIZE) else {
+    // What the script does not say otherwise: room for a whole ring, and the longest texts.
+    let Some(settings) = Settings::new(CAPACITY as u64, SIZE as u64) else {
         return Ok(());
     };
     let (mut left, mut right) = ([Memory::new(); LANES], [Memory::new(); LANES]);

@@ -7,11 +7,12 @@ use lent::inbox::Memory;
 use lent::incoming::Incoming;
 use lent::receiver::Receiver;
 use lent::sender::{MOST, Sender};
-use packet::packet::{Kind, Packet, PacketRef, Span};
+use packet::packet::{Kind, Packet, PacketRef, SIZE, Span};
+use packet::settings::CAPACITY;
 
-const TEXT: usize = 1024;
+const TEXT: usize = SIZE;
 
-const WINDOW: u64 = 65536;
+const WINDOW: u64 = CAPACITY as u64;
 
 /// Carries so many texts, and says how many came as they were given.
 fn carry(texts: u64) -> u64

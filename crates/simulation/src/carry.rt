@@ -21,13 +21,13 @@ use party::Fault;
 fn wants_answer(p: &Packet) -> bool
     ensures { result ≡ wants_answer (packet p.now) }
 {
-    matches!(p.head.kind, Kind::Text) && (p.head.last || p.count > 0)
+    p.head.kind == Kind::Text && (p.head.last || p.count > 0)
 }
 
 fn is_yes(p: &Packet) -> bool
     ensures { result ≡ is_yes (packet p.now).kind }
 {
-    matches!(p.head.kind, Kind::Yes)
+    p.head.kind == Kind::Yes
 }
 
 impl<'m> Pair<'m> {

@@ -88,6 +88,8 @@ impl<'m> Half<'m> {
         Ok(())
     }
 
+    // Three that find memory and post: what they say is a step of its own each, which a closure would have to carry in its clauses.
+
     /// What is due at a tag goes out.
     pub(crate) fn due(&mut self, tag: u64) -> Result<(), Fault>
         ensures { (came : List Packet) (ts : List ℕ) → HalfDoes self.old self.new came ts ts (λ o _. when_ok (λ _. Due o tag ∷ []) result) }

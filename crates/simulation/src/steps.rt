@@ -14,6 +14,8 @@ use packet::settings::Settings;
 use party::Fault;
 use std::alloc::Global;
 
+// The sentence stands on each contract and in no ghost field: that callers read it there is what the crate is for.
+
 impl<'m> Simulation<'m> {
     pub fn new(
         heap: Global,

@@ -2,7 +2,7 @@ ghost use Rattle.std.specs.Prelude.{◌≡◌, ℕ, ◌+◌, ◌^◌, ◌<◌, �
 ghost use Rattle.crc32c.specs.Crc.{Bytes};
 ghost use Rattle.packet.specs.Packets.{kind_of, packet_in};
 ghost use Rattle.packet.specs.Sizes.{text_size};
-ghost use Rattle.wire.specs.Format.{Written, check_fits, decode, decode_fields, encode, fault_in, fields_of, flags_of, frame, header_of, length_fits, range_fault, stray_field, tag_fault};
+ghost use Rattle.wire.specs.Format.{Written, check_fits, decode, decode_fields, encode, fault_in, fields_of, flags_of, frame, header_of, length_fits, stray_field, tag_fault};
 ghost use Rattle.wire.specs.Laws.{Fits, ReadsBack, WasWritten};
 ghost use Rattle.wire.specs.Numbers.{number16};
 ghost use Rattle.wire.specs.Reading.{read_of};
@@ -12,19 +12,12 @@ use crate::fault::{Fault, WriteError};
 use crate::numbers::{array_at, number_at};
 use crc32c::crc32c;
 use packet::packet::{Head, Kind, PacketRef, SIZE};
-use packet::settings::CAPACITY;
 
 /// Bytes before the text.
 const HEADER: usize = 44;
 
 /// Bytes of a packet without text: the header and the check.
 pub const FRAME: usize = HEADER + 4;
-
-/// No place of a stream is beyond this.
-const MOST_PLACE: u64 = 1 << 62;
-
-/// No edge is beyond this.
-const MOST_EDGE: u64 = MOST_PLACE + CAPACITY as u64;
 
 /// Whether a packet that is no text has more than its tags.
 fn stray_field(p: PacketRef<'_>) -> bool
@@ -50,12 +43,6 @@ fn tag_fault(head: Head) -> bool
         }
 }
 
-fn range_fault(head: Head) -> bool
-    ensures { result ≡ range_fault head.place head.upto head.edge }
-{
-    head.place > MOST_PLACE || head.upto > MOST_PLACE || head.edge > MOST_EDGE
-}
-
 /// The first fault of a packet's fields, which neither is written nor taken.
 fn check_fields(p: PacketRef<'_>) -> Result<(), Fault>
     ensures { MatchResult result (λ _. None ≡ fault_in (packet_in p.entry)) (λ fault. Some fault ≡ fault_in (packet_in p.entry)) }
@@ -63,7 +50,7 @@ fn check_fields(p: PacketRef<'_>) -> Result<(), Fault>
     if stray_field(p) || tag_fault(p.head) {
         return Err(Fault::Zero);
     }
-    if range_fault(p.head) {
+    if p.head.is_beyond() {
         return Err(Fault::Range);
     }
     Ok(())
@@ -164,6 +151,8 @@ fn put(out: &mut [u8], at: usize, bytes: &[u8])
     let end = at + bytes.len();
     out[at..end].copy_from_slice(bytes);
 }
+
+// The packet and where it goes are the two sides of each writer below: a struct of both would be taken apart in each.
 
 /// Writes all before the text.
 fn write_header(p: PacketRef<'_>, out: &mut [u8])
