@@ -83,6 +83,14 @@ by_tag-front : (t u : ℕ) (cs : List Conn) → by_tag t (new Half t u ∷ cs) �
 unfolding by_tag
 by_tag-front t u cs = cond-true (eqb t t && true) (There (new Half t u)) (by_tag t cs) (and_from _ _ (eq-eqb t t refl) refl)
 
+-- no tag is lost
+abbrev pub Wider : Who → World → World → Type 0
+Wider o w v = (u : ℕ) → is_in u (tags (end o w).conns) ≡ true → is_in u (tags (end o v).conns) ≡ true
+
+pub in_new : (u : ℕ) (c : Conn) (cs : List Conn) → is_in u (tags cs) ≡ true → is_in u (tags (c ∷ cs)) ≡ true
+unfolding tags is_in
+in_new u c cs h = or_right (eqb c.mine u) _ h
+
 -- all accounts after a look at an end
 pub record After (o : Who) (w : World) (bs : List Account) : Type 0 where
   pub tell : Tell (looked (end o w).conns bs) (end o w).conns
@@ -135,12 +143,12 @@ module _ (o : Who) (w : World) (s : Sound (end o w).conns w.drawn) (bs : List Ac
         go NotThere q = q
         go (There c) q = let (m, u, _) = by_tag_mem t cs c q in false_true _ e (ap (λ v. is_in v (tags cs)) (sym u) ∙ mem_tags cs c m)
 
-    -- all accounts after a look, with one more if there is a connection more
+    -- all accounts after a look, with one more if there is a connection more; and no tag is lost
     abbrev pub Heard : World → Type 0
-    Heard v = After o v (with_new t (by_tag t (end o v).conns) bs)
+    Heard v = After o v (with_new t (by_tag t (end o v).conns) bs) × Wider o w v
 
     none_new : (v : World) → tags (end o v).conns ≡ tags (end o w).conns → After o v bs → Heard v
-    none_new v e a = subst (λ z. After o v (with_new t z bs)) (sym (unknown (end o v).conns (ap (is_in t) e ∙ fresh))) a
+    none_new v e a = (subst (λ z. After o v (with_new t z bs)) (sym (unknown (end o v).conns (ap (is_in t) e ∙ fresh))) a, λ u h. ap (is_in u) e ∙ h)
 
     says-only : (ps : List Packet) → Heard (put o (end o w) ps [] w)
     says-only ps = none_new (put o (end o w) ps [] w) (ap (λ e. tags e.conns) (end-put o (end o w) ps [] w)) (after_same ps)
@@ -159,8 +167,11 @@ module _ (o : Who) (w : World) (s : Sound (end o w).conns w.drawn) (bs : List Ac
         at_front = by_tag-front t p.from (end o w).conns
 
         added-one : Heard (put o (added (new Half t p.from) (end o w)) (bare Yes t p.from ∷ []) (t ∷ []) w)
-        added-one = subst (λ z. After o (put o (added (new Half t p.from) (end o w)) (bare Yes t p.from ∷ []) (t ∷ []) w) (with_new t z bs))
-            (sym (ap (λ e. by_tag t e.conns) (end-put o (added (new Half t p.from) (end o w)) (bare Yes t p.from ∷ []) (t ∷ []) w) ∙ at_front)) (after-new Half t p.from (bare Yes t p.from ∷ []) refl refl f (λ h. false_true _ refl h))
+        added-one = (
+          subst (λ z. After o (put o (added (new Half t p.from) (end o w)) (bare Yes t p.from ∷ []) (t ∷ []) w) (with_new t z bs))
+              (sym (ap (λ e. by_tag t e.conns) (end-put o (added (new Half t p.from) (end o w)) (bare Yes t p.from ∷ []) (t ∷ []) w) ∙ at_front)) (after-new Half t p.from (bare Yes t p.from ∷ []) refl refl f (λ h. false_true _ refl h)),
+          λ u h. ap (λ e. is_in u (tags e.conns)) (end-put o (added (new Half t p.from) (end o w)) (bare Yes t p.from ∷ []) (t ∷ []) w) ∙ in_new u (new Half t p.from) (end o w).conns h,
+        )
 
     on_yes_lem : (z : Found) → by_tag p.to (end o w).conns ≡ z → Heard (on_yes o p z w)
     on_yes_lem NotThere e = says-only (bare Bye p.to p.from ∷ [])

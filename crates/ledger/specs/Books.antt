@@ -1,16 +1,21 @@
 -- The accounts that a book has.
-use Rattle.std.specs.Prelude.{◌≡◌, ℕ, cond, ◌||◌, List, map, reverse, length, Some, None, unwrap_or, vec_items, Option}
-use Rattle.hold.specs.World.{is_open, is_asked, Found, NotThere, There, by_tag}
+use Rattle.std.specs.Prelude.{◌≡◌, ℕ, false, cond, ◌||◌, List, [], ◌∷◌, ◌++◌, map, reverse, length, Some, None, unwrap_or, vec_items, Option, ◌==◌}
+use Rattle.hold.specs.World.{is_open, is_asked, Found, NotThere, There, by_tag, is_in}
 use Rattle.hold.specs.Code.{owes}
 use Rattle.hold.specs.Conn.{Conn}
+use Rattle.hold.specs.Promise.{tags}
 use Rattle.ledger.specs.Sentence.{Account}
-use Rattle.ledger.specs.Tells.{is_said, Tell, with_new}
+use Rattle.ledger.specs.Tells.{is_said, Tell}
 use Rattle.ledger.specs.declared.book.Book.{Book}
 use Rattle.ledger.specs.declared.record.Record.{Record}
+use Rattle.ledger.specs.declared.record.Entry.{Entry}
 use Rattle.ledger.specs.declared.record.View.{View}
 
+abbrev pub fresh : ℕ → Record
+fresh t = record { tag = t; peer = 0; opened = false; closed = false; arrived = 0; heard = false; told = false; upto = 0; all = false }
+
 abbrev pub noted : View → Record → Record
-noted v r = record r { peer = unwrap_or v.peer 0; opened = r.opened || v.opened; closed = v.closed; arrived = v.arrived; heard = v.heard; told = v.told; upto = v.upto; all = v.all }
+noted v r = record { tag = r.tag; peer = unwrap_or v.peer 0; opened = r.opened || v.opened; closed = v.closed; arrived = v.arrived; heard = v.heard; told = v.told; upto = v.upto; all = v.all }
 
 -- the other's tag, once it is known
 abbrev pub peer_of : Conn → Option ℕ
@@ -21,15 +26,23 @@ abbrev pub view_of : Found → Option View
 view_of NotThere = None
 view_of (There c) = Some (record { peer = peer_of c; opened = is_open c.phase; given = length c.given; closed = c.closed; arrived = length c.got; heard = is_said c.end; told = c.ended; upto = c.upto; all = c.all; owes = owes c })
 
-abbrev pub account : Record → Account
-account r = record { tag = r.tag; peer = r.peer; opened = r.opened; given = vec_items r.given; closed = r.closed; arrived = r.arrived; taken = vec_items r.taken; heard = r.heard; told = r.told; upto = r.upto; all = r.all }
+abbrev pub entries : ℕ → List ℕ → List Entry
+entries t bs = map (λ b. record { tag = t; byte = b }) bs
+
+-- the bytes of a tag
+unfoldable pub bytes_of : ℕ → List Entry → List ℕ
+bytes_of t [] = []
+bytes_of t (e ∷ es) = cond (e.tag == t) (e.byte ∷ bytes_of t es) (bytes_of t es)
+
+abbrev pub account : List Entry → List Entry → Record → Account
+account gs ts r = record { tag = r.tag; peer = r.peer; opened = r.opened; given = bytes_of r.tag gs; closed = r.closed; arrived = r.arrived; taken = bytes_of r.tag ts; heard = r.heard; told = r.told; upto = r.upto; all = r.all }
 
 -- all accounts, the latest first
-abbrev pub accounts_of : List Record → List Account
-accounts_of rs = map account (reverse rs)
+abbrev pub accounts_of : List Entry → List Entry → List Record → List Account
+accounts_of gs ts rs = map (account gs ts) (reverse rs)
 
 abbrev pub accounts : Book → List Account
-accounts b = accounts_of (vec_items b.records)
+accounts b = accounts_of (vec_items b.given) (vec_items b.taken) (vec_items b.records)
 
 abbrev pub noted_by : Option View → Record → Record
 noted_by None r = r
@@ -39,14 +52,19 @@ noted_by (Some v) r = noted v r
 abbrev pub noted_in : List Conn → Record → Record
 noted_in cs r = noted_by (view_of (by_tag r.tag cs)) r
 
--- A book keeps these connections: its accounts tell of them.
+-- A book keeps these connections: its accounts tell of them, and no bytes are written down of others.
 pub record Keeps (b : Book) (cs : List Conn) : Type 0 where
   pub tell : Tell (accounts b) cs
+  pub none_given : (t : ℕ) → is_in t (tags cs) ≡ false → bytes_of t (vec_items b.given) ≡ []
+  pub none_taken : (t : ℕ) → is_in t (tags cs) ≡ false → bytes_of t (vec_items b.taken) ≡ []
 
 -- y is x after a look at these connections
 pub record Looked (cs : List Conn) (x y : Book) : Type 0 where
   pub records : vec_items y.records ≡ map (noted_in cs) (vec_items x.records)
+  pub given : y.given ≡ x.given
+  pub taken : y.taken ≡ x.taken
 
--- y has the accounts of x, and one more if a connection with the tag is there
+-- y has the records of x, and one more if a connection with the tag is there
 abbrev pub Met : ℕ → Found → Book → Book → Type 0
-Met t f x y = accounts y ≡ with_new t f (accounts x)
+Met t NotThere x y = (vec_items y.records ≡ vec_items x.records) × (y.given ≡ x.given) × (y.taken ≡ x.taken)
+Met t (There c) x y = (vec_items y.records ≡ vec_items x.records ++ fresh t ∷ []) × (y.given ≡ x.given) × (y.taken ≡ x.taken)

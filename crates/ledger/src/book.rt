@@ -1,64 +1,79 @@
-ghost use Rattle.std.specs.Prelude.{◌≡◌, [], ◌∷◌, map, length, OnOk};
-ghost use Rattle.ledger.specs.Books.{accounts};
-ghost use Rattle.ledger.specs.Ready.{Ready, RoomToGive, RoomToTake};
+ghost use Rattle.std.specs.Prelude.{◌≡◌, ◌+◌, ◌<◌, ◌≤◌, [], ◌∷◌, ◌++◌, length, OnOk};
 ghost use Rattle.ledger.specs.Room.{RoomFor};
-ghost use Rattle.ledger.specs.Tells.{begun, gave, took};
+ghost use Rattle.ledger.specs.Ready.{SameBook, Ready};
+ghost use Rattle.ledger.specs.Books.{entries, fresh};
 
-use crate::record::Record;
+use crate::record::{Entry, Record};
 use std::alloc::{AllocError, Global};
 
-/// The records of an end's connections, the oldest first.
+/// The records of an end's connections and the bytes of all of them, the oldest first.
 #[derive(Drop)]
 pub struct Book {
     pub records: Vec<Record>,
+    // The bytes of all connections stand in one list each, so that `reserve` finds room for bytes of any connection, before a call. Tried
+    // with bytes in each record: room could be promised at one tag only, which is less than a caller has now.
+    pub given: Vec<Entry>,
+    pub taken: Vec<Entry>,
+}
+
+/// Bytes of a connection are written down, for which there is memory.
+fn write(book: &mut Vec<Entry>, tag: u64, bytes: &[u8])
+    ensures { RoomFor (length bytes.now) book.old → book.new.items ≡ book.old.items ++ entries tag bytes.now }
+{
+    for &byte in bytes {
+        // There is memory, so it cannot fail.
+        let _ = book.push(Entry { tag, byte });
+    }
 }
 
 impl Book {
     pub fn new(heap: Global) -> Book
-        ensures { result.records.items ≡ [] }
+        ensures records { result.records.items ≡ [] }
+        ensures given { result.given.items ≡ [] }
+        ensures taken { result.taken.items ≡ [] }
     {
         Book {
             records: Vec::new(heap),
+            given: Vec::new(heap),
+            taken: Vec::new(heap),
         }
     }
 
-    /// Finds memory for one record, and for so many bytes given and taken at a tag.
-    pub fn reserve(&mut self, tag: u64, bytes: usize) -> Result<(), AllocError>
-        ensures same { accounts self.new ≡ accounts self.old }
-        ensures ready { OnOk result (Ready tag bytes self.new) }
+    /// Finds memory for one record, and for so many bytes given and taken.
+    pub fn reserve(&mut self, bytes: usize) -> Result<(), AllocError>
+        ensures same { SameBook self.old self.new }
+        ensures ready { OnOk result (Ready bytes self.new) }
     {
-        for record in self.records.iter_mut() {
-            record.reserve(tag, bytes)?;
-        }
-        self.records.reserve(1)
+        self.records.reserve(1)?;
+        self.given.reserve(bytes)?;
+        self.taken.reserve(bytes)
     }
 
     /// A new connection, for whose record there is memory.
     pub fn begin(&mut self, tag: u64)
-        ensures { RoomFor 1 self.old.records → accounts self.new ≡ begun tag ∷ accounts self.old }
+        ensures records_after { RoomFor 1 self.old.records → (self.new.records.items ≡ self.old.records.items ++ fresh tag ∷ []) }
+        ensures given { self.new.given ≡ self.old.given }
+        ensures taken { self.new.taken ≡ self.old.taken }
     {
-        let heap = *self.records.allocator();
         // There is memory, so it cannot fail.
-        let _ = self.records.push(Record::new(heap, tag));
+        let _ = self.records.push(Record::new(tag));
     }
-
-    // `give` and `take` differ in the bytes that they add to: one function of both would take a closure for three lines.
 
     /// Bytes that a user gave, for which there is memory.
     pub fn give(&mut self, tag: u64, bytes: &[u8])
-        ensures { RoomToGive tag (length bytes.now) self.old → accounts self.new ≡ map (gave tag bytes.now) (accounts self.old) }
+        ensures given_after { RoomFor (length bytes.now) self.old.given → self.new.given.items ≡ self.old.given.items ++ entries tag bytes.now }
+        ensures records { self.new.records ≡ self.old.records }
+        ensures taken { self.new.taken ≡ self.old.taken }
     {
-        for record in self.records.iter_mut() {
-            record.give(tag, bytes);
-        }
+        write(&mut self.given, tag, bytes);
     }
 
     /// Bytes that a user was given, for which there is memory.
     pub fn take(&mut self, tag: u64, bytes: &[u8])
-        ensures { RoomToTake tag (length bytes.now) self.old → accounts self.new ≡ map (took tag bytes.now) (accounts self.old) }
+        ensures taken_after { RoomFor (length bytes.now) self.old.taken → self.new.taken.items ≡ self.old.taken.items ++ entries tag bytes.now }
+        ensures records { self.new.records ≡ self.old.records }
+        ensures given { self.new.given ≡ self.old.given }
     {
-        for record in self.records.iter_mut() {
-            record.take(tag, bytes);
-        }
+        write(&mut self.taken, tag, bytes);
     }
 }

@@ -1,9 +1,5 @@
-ghost use Rattle.std.specs.Prelude.{◌≡◌, length, OnOk};
-ghost use Rattle.ledger.specs.Books.{account, noted};
-ghost use Rattle.ledger.specs.Ready.{GivenRoom, TakenRoom};
-ghost use Rattle.ledger.specs.Tells.{begun, gave, took};
-
-use std::alloc::{AllocError, Global};
+ghost use Rattle.std.specs.Prelude.{◌≡◌};
+ghost use Rattle.ledger.specs.Books.{fresh, noted};
 
 /// What is to be seen of a connection at some moment.
 #[derive(Clone, Copy, PartialEq, Eq, Debug)]
@@ -29,38 +25,39 @@ pub struct View {
     pub owes: bool,
 }
 
-/// What is written down of a connection.
-#[derive(Drop)]
+/// What is written down of a connection, but for its bytes.
+#[derive(Clone, Copy, PartialEq, Eq, Debug)]
 pub struct Record {
     pub tag: u64,
     /// The other's tag, or 0 before it is known.
     pub peer: u64,
     /// It was ever open.
     pub opened: bool,
-    /// The bytes that its user gave.
-    pub given: Vec<u8>,
     pub closed: bool,
     pub arrived: u64,
-    /// The bytes that its user was given.
-    pub taken: Vec<u8>,
     pub heard: bool,
     pub told: bool,
     pub upto: u64,
     pub all: bool,
 }
 
+/// A byte that the user of a connection gave, or was given.
+#[derive(Clone, Copy, PartialEq, Eq, Debug)]
+pub struct Entry {
+    pub tag: u64,
+    pub byte: u8,
+}
+
 impl Record {
-    pub fn new(heap: Global, tag: u64) -> Record
-        ensures { account result ≡ begun tag }
+    pub fn new(tag: u64) -> Record
+        ensures { result ≡ fresh tag }
     {
         Record {
             tag,
             peer: 0,
             opened: false,
-            given: Vec::new(heap),
             closed: false,
             arrived: 0,
-            taken: Vec::new(heap),
             heard: false,
             told: false,
             upto: 0,
@@ -68,49 +65,20 @@ impl Record {
         }
     }
 
-    /// Finds memory for so many bytes given and taken, if the tag is its own.
-    pub(crate) fn reserve(&mut self, tag: u64, bytes: usize) -> Result<(), AllocError>
-        ensures same { account self.new ≡ account self.old }
-        ensures ready { OnOk result (GivenRoom tag bytes self.new × TakenRoom tag bytes self.new) }
+    /// The record after a look at its connection.
+    pub fn note(self, v: View) -> Record
+        ensures { result ≡ noted v self }
     {
-        if self.tag == tag {
-            self.given.reserve(bytes)?;
-            self.taken.reserve(bytes)?;
+        Record {
+            tag: self.tag,
+            peer: v.peer.unwrap_or(0),
+            opened: self.opened || v.opened,
+            closed: v.closed,
+            arrived: v.arrived,
+            heard: v.heard,
+            told: v.told,
+            upto: v.upto,
+            all: v.all,
         }
-        Ok(())
-    }
-
-    /// Bytes that the user of a tag gave; where the tag is its own, there is memory for them.
-    pub(crate) fn give(&mut self, tag: u64, bytes: &[u8])
-        ensures { GivenRoom tag (length bytes.now) self.old → account self.new ≡ gave tag bytes.now (account self.old) }
-    {
-        if self.tag == tag {
-            // There is memory, so it cannot fail.
-            let _ = self.given.extend_from_slice(bytes);
-        }
-    }
-
-    /// Bytes that the user of a tag was given; where the tag is its own, there is memory for them.
-    pub(crate) fn take(&mut self, tag: u64, bytes: &[u8])
-        ensures { TakenRoom tag (length bytes.now) self.old → account self.new ≡ took tag bytes.now (account self.old) }
-    {
-        if self.tag == tag {
-            // There is memory, so it cannot fail.
-            let _ = self.taken.extend_from_slice(bytes);
-        }
-    }
-
-    /// After a look at the connection.
-    pub fn note(&mut self, v: View)
-        ensures { self.new ≡ noted v self.old }
-    {
-        self.peer = v.peer.unwrap_or(0);
-        self.opened |= v.opened;
-        self.closed = v.closed;
-        self.arrived = v.arrived;
-        self.heard = v.heard;
-        self.told = v.told;
-        self.upto = v.upto;
-        self.all = v.all;
     }
 }

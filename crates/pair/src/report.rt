@@ -1,4 +1,5 @@
 use ledger::book::Book;
+use ledger::record::Entry;
 use packet::packet::{Kind, Packet};
 use text::data::encode;
 
@@ -41,6 +42,15 @@ pub fn print_packets(
     Ok(())
 }
 
+/// The bytes of one connection among those of all.
+fn bytes_of(rt: &HostRuntime, entries: &[Entry], tag: u64) -> anyhow::Result<String> {
+    let mut bytes = Vec::new(rt.alloc());
+    for entry in entries.iter().filter(|entry| entry.tag == tag) {
+        bytes.push(entry.byte)?;
+    }
+    word(rt, bytes.as_slice())
+}
+
 // No `Display`: a `bool` has one already, which says `true` and `false`.
 fn yes_no(b: bool) -> &'static str {
     if b { "yes" } else { "no" }
@@ -49,8 +59,8 @@ fn yes_no(b: bool) -> &'static str {
 /// What the users of a side gave, were given and were told.
 pub fn print_book(rt: &HostRuntime, side: &str, book: &Book) -> anyhow::Result<()> {
     for r in book.records.as_slice() {
-        let given = word(rt, r.given.as_slice())?;
-        let taken = word(rt, r.taken.as_slice())?;
+        let given = bytes_of(rt, book.given.as_slice(), r.tag)?;
+        let taken = bytes_of(rt, book.taken.as_slice(), r.tag)?;
         let (tag, peer, upto) = (r.tag, r.peer, r.upto);
         let (opened, closed, told, all) = (
             yes_no(r.opened),

@@ -22,7 +22,7 @@ fn note(end: &Endpoint<'_>, account: &mut Record)
     ensures { (e : End) → Stands end.now e → account.new ≡ noted_in e.conns account.old }
 {
     if let Some(v) = look(end.table(), account.tag) {
-        account.note(v);
+        *account = account.note(v);
     }
 }
 
@@ -113,7 +113,7 @@ impl<'m> Party<'m> {
     pub fn open(&mut self, tag: u64) -> Result<Packet, Fault>
         ensures { Opened self.old self.new tag result }
     {
-        self.book.reserve(tag, 0)?;
+        self.book.reserve(0)?;
         let ask = self.end.open(tag)?;
         self.book.begin(tag);
         self.look_around();
@@ -124,7 +124,7 @@ impl<'m> Party<'m> {
     pub fn give(&mut self, tag: u64, bytes: &[u8]) -> Result<usize, Fault>
         ensures { Gave self.old self.new tag bytes.now result }
     {
-        self.book.reserve(tag, bytes.len())?;
+        self.book.reserve(bytes.len())?;
         let count = self.end.give(tag, bytes)?;
         self.book.give(tag, &bytes[..count.min(bytes.len())]);
         self.look_around();
@@ -153,7 +153,7 @@ impl<'m> Party<'m> {
     pub fn take(&mut self, tag: u64, out: &mut [u8]) -> Result<usize, Fault>
         ensures { Tried self.old self.new (λ o. Takes o tag (length out.old)) result }
     {
-        self.book.reserve(tag, out.len())?;
+        self.book.reserve(out.len())?;
         look(self.end.table(), tag).ok_or(Refusal::NotThere)?;
         let count = self.end.take(tag, out)?;
         self.book.take(tag, &out[..count.min(out.len())]);
@@ -176,7 +176,7 @@ impl<'m> Party<'m> {
         ensures { Heard self.old self.new (packet p.now) draws result }
     {
         let view = p.view().ok_or(Fault::Unfit)?;
-        self.book.reserve(draws, 0)?;
+        self.book.reserve(0)?;
         let reply = self.end.hear(view, draws)?;
         self.meet(draws);
         self.look_around();

@@ -1,11 +1,9 @@
-use Rattle.std.proofs.Common.{◌≡◌, sym, ap, ◌∙◌, subst}
+use Rattle.std.proofs.Common.{◌≡◌, sym, ◌∙◌, subst}
 use Rattle.hold.specs.Packet as m
-use Rattle.hold.specs.World.{by_tag}
 use Rattle.endpoint.specs.Stands.{Stands}
 use Rattle.endpoint.specs.Steps.{Heard}
 use Rattle.endpoint.specs.declared.Endpoint.{Endpoint}
 use Rattle.packet.specs.Packets.{Viewed, packet, packet_in, sent}
-use Rattle.ledger.specs.Tells.{with_new}
 use Rattle.party.proofs.Parties.{heard_acts}
 use Rattle.party.proofs.Party.hear.Goals as goal
 
@@ -15,5 +13,5 @@ returns c =
     let seen = subst (Viewed c.args.p.now) c.in_ok-view.ensures.ok_part c.view.ensures in
     let same : packet_in v ≡ packet c.args.p.now = let h = seen.1 in let t = seen.2 in cc in
     heard_acts c.args.self.now _ c.hear.new.self c.meet.new.self.book (c.look_around.ensures.end ∙ c.meet.ensures.end) (λ e s. c.look_around.ensures.seen e (subst (λ (z : Endpoint). Stands z e) (sym c.meet.ensures.end) s))
-    (packet c.args.p.now) c.args.draws (sent c.in_ok-reply.reply) (subst (λ (p : m.Packet). Heard c.args.self.now.end c.hear.new.self (sent c.in_ok-reply.reply) p p.kind c.args.draws) same c.in_ok-reply.ensures.1)
-    (λ e s. c.meet.ensures.met e s c.in_ok-reserve.ensures.ready.records ∙ ap (with_new c.args.draws (by_tag c.args.draws e.conns)) c.reserve.ensures.same)
+    c.reserve.new.self c.reserve.ensures.same (packet c.args.p.now) c.args.draws (sent c.in_ok-reply.reply) (subst (λ (p : m.Packet). Heard c.args.self.now.end c.hear.new.self (sent c.in_ok-reply.reply) p p.kind c.args.draws) same c.in_ok-reply.ensures.1)
+    c.in_ok-reserve.ensures.ready c.meet.ensures.met
