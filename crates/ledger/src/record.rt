@@ -30,6 +30,7 @@ pub struct View {
 pub struct Record {
     pub tag: u64,
     /// The other's tag, or 0 before it is known.
+    // A number and no Option: an account of the sentence has a number here, and no connection has the tag 0.
     pub peer: u64,
     /// It was ever open.
     pub opened: bool,
