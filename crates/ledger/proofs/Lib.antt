@@ -1,6 +1,5 @@
 pub mod Sentences
 pub mod Looks
 pub mod Steps
-pub mod Written
 pub mod Accounts
 pub mod Kept
