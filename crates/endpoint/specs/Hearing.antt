@@ -1,11 +1,11 @@
 -- Packets heard.
-use Rattle.std.specs.Prelude.{◌≡◌, ℕ, ◌+◌, Bool, true, cond, not, ◌&&◌, ◌||◌, length, is_some, None, Ok, Err, Option, Result, ◌==◌, nat_lt}
+use Rattle.std.specs.Prelude.{◌≡◌, ℕ, Bool, true, cond, not, ◌&&◌, ◌||◌, length, is_some, None, Ok, Err, Option, Result, ◌==◌, nat_lt}
 use Rattle.hold.specs.Code.{is_ask}
 use Rattle.hold.specs.Packet as m
 use Rattle.packet.specs.Packets.{sent}
+use Rattle.packet.specs.Places.{beyond}
 use Rattle.packet.specs.Sizes.{text_size}
 use Rattle.packet.specs.declared.packet.Packet.{Packet}
-use Rattle.lent.specs.Sending.{most}
 use Rattle.table.specs.Search.{finds, has_room, is_there}
 use Rattle.table.specs.declared.Wanted.TheVariants.{Peer}
 use Rattle.endpoint.specs.Calls.{Refused}
@@ -24,7 +24,7 @@ zero_tag p = p.from == 0 || (not (is_ask p.kind) && p.to == 0)
 
 -- beyond what a stream can have
 abbrev pub too_far : m.Packet → Bool
-too_far p = nat_lt most p.place || (nat_lt most p.upto || nat_lt (most + 65536) p.edge)
+too_far p = beyond p.place p.upto p.edge
 
 -- the first of these causes: too long, no tag, too far, no room, a tag that is there; the last two only where a connection is needed
 abbrev pub cause : Bool → Bool → Bool → Bool → Bool → Bool → ℕ

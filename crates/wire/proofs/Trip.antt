@@ -13,7 +13,8 @@ use Rattle.wire.specs.declared.fault.Fault.{Fault}
 use Rattle.wire.specs.declared.fault.Fault.TheVariants.{Zero, Range}
 use Rattle.wire.specs.Numbers.{number16, number32, number64, bytes2, bytes4, bytes8}
 use Rattle.packet.specs.Kinds.{kind_in, kind_number}
-use Rattle.wire.specs.Format.{Written, covered, decode, encode, fault_in, fields_of, flags_of, header_of, is_none, range_fault, sound, stray_field, tag_fault, most_place, most_edge}
+use Rattle.packet.specs.Places.{most_edge, most_place}
+use Rattle.wire.specs.Format.{Written, covered, decode, encode, fault_in, fields_of, flags_of, header_of, is_none, range_fault, sound, stray_field, tag_fault}
 use Rattle.wire.specs.Laws.{Fits, ReadsBack, WasWritten}
 use Rattle.wire.proofs.Digits.{number64-bytes8, number32-bytes4, number16-bytes2, bytes8_are, bytes8-number64, bytes4-number32, bytes2-number16, reads_are, last4}
 use Rattle.wire.proofs.Took.{Took, took, takes}

@@ -1,10 +1,11 @@
 -- A packet in bytes, all numbers high byte first:
 -- kind (1 byte), flags (1), count (2), from (8), to (8), place (8), upto (8), edge (8), the text's bytes, check (4) over all before it.
-use Rattle.std.specs.Prelude.{◌≡◌, ℕ, ◌+◌, ◌-◌, ◌*◌, ◌/◌, ◌%◌, ◌^◌, ◌<◌, ◌≤◌, Bool, true, false, cond, not, ◌&&◌, ◌||◌, List, ◌∷◌, ◌++◌, length, take, drop, Some, None, Ok, Err, Option, Result, ◌==◌, nat_le, nat_lt, slice_index}
+use Rattle.std.specs.Prelude.{◌≡◌, ℕ, ◌+◌, ◌-◌, ◌*◌, ◌/◌, ◌%◌, ◌<◌, ◌≤◌, Bool, true, false, cond, not, ◌&&◌, ◌||◌, List, ◌∷◌, ◌++◌, length, take, drop, Some, None, Ok, Err, Option, Result, ◌==◌, nat_le, nat_lt, slice_index}
 use Rattle.hold.specs.Packet as m
 use Rattle.crc32c.specs.Crc.{crc_of}
 use Rattle.packet.specs.Packets.{kind_of}
 use Rattle.packet.specs.Kinds.{kind_in, kind_number}
+use Rattle.packet.specs.Places.{most_edge, most_place}
 use Rattle.packet.specs.Sizes.{text_size}
 use Rattle.packet.specs.declared.packet.Kind.{Kind}
 use Rattle.wire.specs.Numbers.{number16, number32, number64, bytes2, bytes4, bytes8}
@@ -26,14 +27,6 @@ frame = 48
 -- last is bit 0, all is bit 1
 abbrev pub flags_of : Bool → Bool → ℕ
 flags_of last all = cond last 1 0 + 2 * cond all 1 0
-
--- no place of a stream is beyond this
-abbrev pub most_place : ℕ
-most_place = 2 ^ 62
-
--- and no edge beyond this
-abbrev pub most_edge : ℕ
-most_edge = most_place + 65536
 
 abbrev pub is_text : m.Kind → Bool
 is_text m.Ask = false
