@@ -2,7 +2,7 @@
 use Rattle.std.specs.Bool.{then_some}
 use Rattle.std.specs.Option.{option_eq, option_or}
 use Rattle.std.specs.Prelude.{nat_eq}
-use Rattle.std.proofs.Common.{◌≡◌, ℕ, ◌+◌, ◌≤◌, max, Bool, true, false, Some, refl, cond, ◌||◌, List, [], ◌++◌, length, Option, None, sym, ap, ◌∙◌, subst}
+use Rattle.std.proofs.Common.{◌≡◌, ℕ, ◌+◌, ◌≤◌, max, Bool, true, false, Some, refl, cond, ◌||◌, List, [], ◌++◌, length, Option, None, sym, ap, ◌∙◌}
 use Rattle.std.proofs.lemmas.Bool.{cond-false}
 use Rattle.hold.specs.Packet as m
 use Rattle.hold.specs.Packet.{Piece, larger, lower}
@@ -43,7 +43,7 @@ flows_give cfg x s ring ring2 bs cl up w into bits q c st =
     record { past = h; is = i ∙ ap (gives bs) st.is; waits = w g st.waits; holds = st.holds }
 
 -- whether the end is at a place, and what a text says of it, by the code's option
-ends-at : (e : Option ℕ) (n : ℕ) → option_eq nat_eq e (Some n) ≡ ends (last_of e) n
+pub ends-at : (e : Option ℕ) (n : ℕ) → option_eq nat_eq e (Some n) ≡ ends (last_of e) n
 ends-at None n = refl
 ends-at (Some p) n = refl
 
@@ -52,18 +52,18 @@ said-or (Some p) l n = refl
 said-or None true n = refl
 said-or None false n = refl
 
-pub flows_advance : (cfg : m.Settings) (x : Stream) (r : Receiver) (b : Bool) (into bits into2 bits2 : List ℕ) → into2 ≡ into → r.taken ≡ x.receiver.taken → b ≡ option_eq nat_eq x.end (Some r.got) →
+pub flows_advance : (cfg : m.Settings) (x : Stream) (r : Receiver) (b : Bool) (bits bits2 : List ℕ) → r.taken ≡ x.receiver.taken → b ≡ (x.ended || ends (last_of x.end) r.got) →
     ((ring g : List ℕ) (ks : List Piece) → Holds cfg.room x.receiver ring bits g ks → Holds cfg.room r ring bits2 (g ++ turn (length ks) (length g) ks) (from (length (g ++ turn (length ks) (length g) ks)) ks)) →
-    (out : List ℕ) → Flows cfg x (rings out into bits) (with_receiver x r (x.ended || b)) (rings out into2 bits2) advance
-flows_advance cfg x r b into bits into2 bits2 same et eb h out q c st =
+    (out into : List ℕ) → Flows cfg x (rings out into bits) (with_receiver x r b) (rings out into bits2) advance
+flows_advance cfg x r b bits bits2 et eb h out into q c st =
     let g = st.past.got in
     let ks = st.past.kept in
     let g2 = g ++ turn (length ks) (length g) ks in
     let p : Past = record { opened = st.past.opened; given = st.past.given; got = g2; kept = from (length g2) ks } in
     let h2 = h into g ks st.holds in
-    let e : b ≡ ends (last_of x.end) (length g2) = eb ∙ ends-at x.end r.got ∙ ap (ends (last_of x.end)) h2.got_all in
-    let i : conn_of (join q (with_receiver x r (x.ended || b))) p ≡ advance (conn_of (join q x) st.past) = cc in
-    record { past = p; is = i ∙ ap advance st.is; waits = st.waits; holds = subst (λ (ring : List ℕ). Holds cfg.room r ring bits2 g2 (from (length g2) ks)) (sym same) h2 }
+    let e : b ≡ (x.ended || ends (last_of x.end) (length g2)) = eb ∙ ap (λ k. x.ended || ends (last_of x.end) k) h2.got_all in
+    let i : conn_of (join q (with_receiver x r b)) p ≡ advance (conn_of (join q x) st.past) = cc in
+    record { past = p; is = i ∙ ap advance st.is; waits = st.waits; holds = h2 }
 
 abbrev pub heard_by : Stream → ℕ → Bool → Option ℕ → Sender → Stream
 heard_by x sees all end s = record { sender = s; receiver = x.receiver; closed = x.closed; sees = sees; all = all; end = end; ended = x.ended }

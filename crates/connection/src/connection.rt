@@ -71,12 +71,12 @@ impl Connection {
     }
 
     /// Moves bytes that the user got and has not taken into `out`, and says how many. Of a connection that is gone too.
-    pub fn take(mut self, inbox: &Inbox, out: &mut [u8]) -> (Connection, usize)
+    pub fn take(mut self, ring: &[u8; CAPACITY], out: &mut [u8]) -> (Connection, usize)
         ensures acts { (cfg : m.Settings) (mem : Rings) → ActsAs cfg self mem result.0 mem (takes (length out.old)) }
-        ensures took { (cfg : m.Settings) (given bits : List ℕ) (c : Conn) → Stand1 cfg self (rings given inbox.now.ring bits) c → Took c out.old out.new result.1 }
-        ensures drained { (cfg : m.Settings) (given bits : List ℕ) (c : Conn) → LeftOver cfg self (rings given inbox.now.ring bits) c → Drained cfg self result.0 (rings given inbox.now.ring bits) c out.old out.new result.1 }
+        ensures took { (cfg : m.Settings) (given bits : List ℕ) (c : Conn) → Stand1 cfg self (rings given ring.now bits) c → Took c out.old out.new result.1 }
+        ensures drained { (cfg : m.Settings) (given bits : List ℕ) (c : Conn) → LeftOver cfg self (rings given ring.now bits) c → Drained cfg self result.0 (rings given ring.now bits) c out.old out.new result.1 }
     {
-        let (stream, n) = self.stream.take(inbox, out);
+        let (stream, n) = self.stream.take(ring, out);
         self.stream = stream;
         (self, n)
     }

@@ -1,13 +1,12 @@
-ghost use Rattle.std.specs.Prelude.{◌≡◌};
-ghost use Rattle.connection.specs.Stand.{Fresh, rings_of};
+ghost use Rattle.connection.specs.Stand.{Fresh, rings};
 
-use lent::inbox::Memory;
+use lent::bits::WORDS;
+use packet::settings::CAPACITY;
 
-/// Readies memory for a new connection. Its rings may hold anything, and stay as they are; the bits of what is kept are put down.
-pub fn ready(memory: &mut Memory)
-    ensures fresh { Fresh (rings_of memory.new) }
-    ensures out { memory.new.out ≡ memory.old.out }
-    ensures ring { memory.new.inbox.ring ≡ memory.old.inbox.ring }
+/// Readies memory for a new connection. Its rings, for the bytes to be sent and for those that came, may hold anything; the
+/// bits of what is kept are put down.
+pub fn ready(out: &[u8; CAPACITY], into: &[u8; CAPACITY], bits: &mut [u64; WORDS])
+    ensures { Fresh (rings out.now into.now bits.new) }
 {
-    memory.inbox.clear();
+    bits.fill(0);
 }

@@ -8,6 +8,7 @@ ghost use Rattle.lent.specs.Sending.{free};
 ghost use Rattle.connection.specs.Stand.{Flows, Began, Moved, Rings, beside, rings};
 ghost use Rattle.connection.specs.Fields.{stream_owes};
 
+use lent::bits::WORDS;
 use lent::inbox::Inbox;
 use lent::incoming::Incoming;
 use lent::receiver::Receiver;
@@ -67,16 +68,17 @@ impl Stream {
         (self, n)
     }
 
-    // An inbox, the settings, and what is taken or came stay apart: the one is lent, the others are the end's and the caller's.
+    // A ring or an inbox, the settings, and what is taken or came stay apart: the one is lent, the others are the end's and the
+    // caller's.
 
     /// Moves bytes that the user got and has not taken into `out`, and says how many.
-    pub fn take(mut self, inbox: &Inbox, out: &mut [u8]) -> (Stream, usize)
+    pub fn take(mut self, ring: &[u8; CAPACITY], out: &mut [u8]) -> (Stream, usize)
         ensures acts { (cfg : m.Settings) (mem : Rings) → Flows cfg self mem result.0 mem (takes (length out.old)) }
         ensures kept { (window : ℕ) (ring bits g : List ℕ) (ks : List m.Piece) → Holds window self.receiver ring bits g ks → Holds window result.0.receiver ring bits g ks }
         ensures ended { result.0.ended ≡ self.ended }
-        ensures moved { Moved self inbox.now.ring out.old out.new result.1 }
+        ensures moved { Moved self ring.now out.old out.new result.1 }
     {
-        let (receiver, n) = self.receiver.take(inbox, out);
+        let (receiver, n) = self.receiver.take(ring, out);
         self.receiver = receiver;
         (self, n)
     }
@@ -97,10 +99,10 @@ impl Stream {
     }
 
     /// Bytes whose turn has come are handed on, and the user is told the end where it is reached.
-    fn advance(mut self, inbox: &mut Inbox, settings: Settings) -> Stream
-        ensures { (out : List ℕ) → Flows (cfg_of settings) self (beside out inbox.old) result (beside out inbox.new) advance }
+    fn advance(mut self, bits: &mut [u64; WORDS], settings: Settings) -> Stream
+        ensures { (out into : List ℕ) → Flows (cfg_of settings) self (rings out into bits.old) result (rings out into bits.new) advance }
     {
-        self.receiver = self.receiver.advance(inbox, settings.room);
+        self.receiver = self.receiver.advance(bits, settings.room);
         self.ended |= self.end == Some(self.receiver.got);
         self
     }
@@ -110,7 +112,7 @@ impl Stream {
         ensures { (out : List ℕ) → Flows (cfg_of settings) self (beside out inbox.old) result (beside out inbox.new) (hears (cfg_of settings) (packet_in incoming.now.packet)) }
     {
         self.heard(inbox, settings, incoming)
-            .advance(inbox, settings)
+            .advance(&mut inbox.bits, settings)
     }
 
     /// Whether a text that ends at a place is the last.

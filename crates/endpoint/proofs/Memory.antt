@@ -9,6 +9,10 @@ use Rattle.table.specs.Search.{at}
 use Rattle.endpoint.specs.Stands.{Sized, cfg, laid, lent, nothing}
 use Rattle.endpoint.specs.declared.Endpoint.{Endpoint}
 
+-- what is put at one place of a list is put at another that is the same
+pub set_at : {A : Type 0} (xs ys : List A) (k l : ℕ) (v : A) → ys ≡ set xs k v → k ≡ l → ys ≡ set xs l v
+set_at xs ys k l v e same = e ∙ ap (λ i. set xs i v) same
+
 -- all but the table is as it was, and all memory but that of a lane
 pub record Beside (l : ℕ) (x y : Endpoint) : Type 0 where
   pub listens : y.listens ≡ x.listens

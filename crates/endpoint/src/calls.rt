@@ -77,7 +77,8 @@ impl<'m> Endpoint<'m> {
         ensures { Joined self.old self.new c result }
     {
         let lane = self.table.add(c).ok_or(Refusal::Full)?;
-        ready(&mut self.memory[lane]);
+        let memory = &mut self.memory[lane];
+        ready(&memory.out, &memory.inbox.ring, &mut memory.inbox.bits);
         Ok(())
     }
 
@@ -152,7 +153,7 @@ impl<'m> Endpoint<'m> {
         ensures { Taken self.old self.new tag out.old out.new result }
     {
         let lane = self.kept(tag)?;
-        let (drained, n) = self.table.conns[lane].take(&self.memory[lane].inbox, out);
+        let (drained, n) = self.table.conns[lane].take(&self.memory[lane].inbox.ring, out);
         self.table.conns[lane] = drained;
         Ok(n)
     }

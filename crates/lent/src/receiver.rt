@@ -6,7 +6,7 @@ ghost use Rattle.lent.specs.Sending.{limit};
 ghost use Rattle.lent.specs.Bits.{AllAre};
 ghost use Rattle.lent.specs.Rings.{Holds};
 
-use crate::bits::{mark, run};
+use crate::bits::{WORDS, mark, run};
 use crate::inbox::Inbox;
 use crate::incoming::Incoming;
 use crate::ring::get;
@@ -40,15 +40,15 @@ impl Receiver {
     }
 
     /// Moves bytes that were got and not taken into `out`, as many as there are or as it takes, and says how many.
-    pub fn take(mut self, inbox: &Inbox, out: &mut [u8]) -> (Receiver, usize)
+    pub fn take(mut self, ring: &[u8; CAPACITY], out: &mut [u8]) -> (Receiver, usize)
         ensures holds { (window : ℕ) (ring bits g : List ℕ) (ks : List Piece) → Holds window self ring bits g ks → Holds window result.0 ring bits g ks }
         ensures count { result.1 ≡ min (length out.old) (self.got - self.taken) }
         ensures got { result.0.got ≡ self.got }
         ensures taken { result.0.taken ≡ self.taken + result.1 }
-        ensures bytes { (window : ℕ) (bits g : List ℕ) (ks : List Piece) → Holds window self inbox.now.ring bits g ks → out.new ≡ take result.1 (drop self.taken g) ++ drop result.1 out.old }
+        ensures bytes { (window : ℕ) (bits g : List ℕ) (ks : List Piece) → Holds window self ring.now bits g ks → out.new ≡ take result.1 (drop self.taken g) ++ drop result.1 out.old }
     {
         let n = (out.len() as u64).min(self.available()) as usize;
-        get(&inbox.ring, self.taken, &mut out[..n]);
+        get(ring, self.taken, &mut out[..n]);
         self.taken += n as u64;
         (self, n)
     }
@@ -73,9 +73,8 @@ impl Receiver {
     }
 
     /// Hands bytes on as long as the next one is kept.
-    pub fn advance(mut self, inbox: &mut Inbox, window: u64) -> Receiver
-        ensures holds { (ring g : List ℕ) (ks : List Piece) → Holds window self ring inbox.old.bits g ks → Holds window result ring inbox.new.bits (g ++ turn (length ks) (length g) ks) (from (length (g ++ turn (length ks) (length g) ks)) ks) }
-        ensures ring { inbox.new.ring ≡ inbox.old.ring }
+    pub fn advance(mut self, bits: &mut [u64; WORDS], window: u64) -> Receiver
+        ensures holds { (ring g : List ℕ) (ks : List Piece) → Holds window self ring bits.old g ks → Holds window result ring bits.new (g ++ turn (length ks) (length g) ks) (from (length (g ++ turn (length ks) (length g) ks)) ks) }
         ensures taken { result.taken ≡ self.taken }
     {
         let room = self
@@ -83,8 +82,8 @@ impl Receiver {
             .saturating_add(window)
             .saturating_sub(self.got)
             .min(CAPACITY as u64);
-        let n = run(&inbox.bits, self.got, room, true);
-        mark(&mut inbox.bits, self.got, n, false);
+        let n = run(bits, self.got, room, true);
+        mark(bits, self.got, n, false);
         self.got += n;
         self
     }

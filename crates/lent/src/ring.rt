@@ -20,7 +20,9 @@ pub fn put(ring: &mut [u8; CAPACITY], place: u64, text: &[u8])
     let at = slot(place);
     let (front, back) = text.split_at(text.len().min(CAPACITY - at));
     ring[at..at + front.len()].copy_from_slice(front);
-    ring[..back.len()].copy_from_slice(back);
+    if !back.is_empty() {
+        ring[..back.len()].copy_from_slice(back);
+    }
 }
 
 /// Reads as many bytes as `out` has, from a place on; no more than two copies for what a ring holds.

@@ -37,7 +37,7 @@ pub fn fill_from<S: Source>(
     let at = slot(place);
     let first = n.min(CAPACITY - at);
     let wrote = source.fill(&mut ring[at..at + first]);
-    if wrote < first {
+    if wrote < first || first == n {
         return wrote;
     }
     wrote + source.fill(&mut ring[..n - first])

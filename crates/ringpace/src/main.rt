@@ -49,8 +49,8 @@ fn carry(texts: u64) -> u64
         };
         receiver.keep_all(&mut memory.inbox, WINDOW, &incoming);
         let (taken, count) = receiver
-            .advance(&mut memory.inbox, WINDOW)
-            .take(&memory.inbox, &mut out);
+            .advance(&mut memory.inbox.bits, WINDOW)
+            .take(&memory.inbox.ring, &mut out);
         sender = given.confirm(taken.got);
         receiver = taken;
         if count == TEXT && out[at] == text[at] {

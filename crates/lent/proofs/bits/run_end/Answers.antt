@@ -1,5 +1,5 @@
 use Rattle.std.proofs.Common.{◌≡◌, ◌-◌, ◌^◌, cond, sym, ap, ◌∙◌, arith}
-use Rattle.lent.proofs.Words.{run_all, run_gap}
+use Rattle.lent.proofs.Words.{run_all, run_end_gap}
 use Rattle.lent.proofs.bits.run_end.Goals as goal
 use Rattle.lent.proofs.bits.run_end.Goals.{then-value, else-value}
 
@@ -10,4 +10,4 @@ pub returns-clause-all : goal.returns-clause-all
 returns-clause-all c = run_all c.args.value c.args.word c.if-value.others c.args.from c.min.result (omega arith) (turned c) (omega arith)
 
 pub returns-clause-gap : goal.returns-clause-gap
-returns-clause-gap c = run_gap c.args.value c.args.word c.if-value.others c.args.from c.min.result (omega arith) (turned c) (omega arith)
+returns-clause-gap c = run_end_gap c.args.value c.args.word c.if-value.others c.args.from c.min.result (omega arith) (turned c) (omega arith)

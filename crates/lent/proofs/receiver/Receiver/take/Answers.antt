@@ -6,4 +6,4 @@ pub returns-clause-holds : goal.returns-clause-holds
 returns-clause-holds c w ring bits g ks h = receive_take w c.args.self.got c.args.self.taken c.min-n.result ring bits g ks (omega arith) h
 
 pub returns-clause-bytes : goal.returns-clause-bytes
-returns-clause-bytes c w bits g ks h = taken_bytes w c.args.self.got c.args.self.taken c.min-n.result c.args.inbox.now.ring bits c.args.out.now c.get.new.out g ks (omega arith) c.get.ensures h
+returns-clause-bytes c w bits g ks h = taken_bytes w c.args.self.got c.args.self.taken c.min-n.result c.args.ring.now bits c.args.out.now c.get.new.out g ks (omega arith) c.get.ensures h
