@@ -1,21 +1,17 @@
 -- The accounts of a book after something is written down.
-use Rattle.std.proofs.Common.{◌≡◌, ℕ, false, eqb, List, [], ◌∷◌, ◌++◌, map, reverse, Some, None, vec_items, sym, refl, ap, ◌∙◌, subst, arith}
-use Rattle.std.specs.Prelude.{unwrap_or}
-use mathlib.Core.List.{Memᴰ}
+use Rattle.std.proofs.Common.{◌≡◌, ℕ, false, eqb, List, [], ◌∷◌, ◌++◌, map, reverse, vec_items, sym, refl, ap, ◌∙◌, subst, arith}
 use Rattle.std.proofs.lemmas.List.{reverse-append, map-append}
 use Rattle.std.proofs.lemmas.Simd.{map-map}
 use Rattle.std.proofs.lemmas.Bool.{cond_both}
 use Rattle.std.proofs.lemmas.Bool.Decides.{nat_tests}
 use Rattle.hold.specs.Conn.{Conn}
-use Rattle.hold.specs.World.{Found, NotThere, There, by_tag, is_asked, is_in}
+use Rattle.hold.specs.World.{Found, NotThere, There, by_tag, is_in}
 use Rattle.hold.specs.Promise.{tags}
-use Rattle.hold.proofs.Table.{by_tag_mem}
 use Rattle.ledger.specs.Tells.{Tell, seen, looked, begun, wrote, gave, took}
 use Rattle.ledger.specs.Books.{fresh, noted_by, view_of, entries, bytes_of, account, accounts_of, accounts, Keeps, Looked}
 use Rattle.ledger.specs.declared.book.Book.{Book}
 use Rattle.ledger.specs.declared.record.Record.{Record}
 use Rattle.ledger.specs.declared.record.Entry.{Entry}
-use Rattle.ledger.proofs.Looks.{Unmet}
 
 bytes_entries : (u t : ℕ) (bs : List ℕ) → bytes_of u (entries t bs) ≡ wrote u t bs
 unfolding bytes_of
@@ -49,17 +45,17 @@ accounts-took gs ts rs t bs = map_so _ _ (reverse rs) (took-account gs ts t bs) 
 pub accounts-begun : (gs ts : List Entry) (rs : List Record) (t : ℕ) → bytes_of t gs ≡ [] → bytes_of t ts ≡ [] → accounts_of gs ts (rs ++ fresh t ∷ []) ≡ begun t ∷ accounts_of gs ts rs
 accounts-begun gs ts rs t g h = ap (map (account gs ts)) (reverse-append rs (fresh t ∷ [])) ∙ (let e : account gs ts (fresh t) ≡ begun t = cc in ap (λ z. z ∷ accounts_of gs ts rs) e)
 
-note-account : (gs ts : List Entry) (f : Found) (r : Record) → ((c : Conn) → f ≡ There c → Unmet c) → account gs ts (noted_by (view_of f) r) ≡ seen f (account gs ts r)
-note-account gs ts NotThere r u = refl
-note-account gs ts (There c) r u = let e = cond_both (is_asked c.phase) None (Some c.theirs) (λ z. unwrap_or z 0 ≡ c.theirs) (λ h. sym (u c refl h)) (λ _. refl) in cc
+note-account : (gs ts : List Entry) (f : Found) (r : Record) → account gs ts (noted_by (view_of f) r) ≡ seen f (account gs ts r)
+note-account gs ts NotThere r = refl
+note-account gs ts (There c) r = refl
 
 map-reverse : {A B : Type 0} (f : A → B) (xs : List A) → reverse (map f xs) ≡ map f (reverse xs)
 map-reverse f [] = refl
 map-reverse f (x ∷ xs) = reverse-append (f x ∷ []) (map f xs) ∙ ap (λ z. z ++ (f x ∷ [])) (map-reverse f xs) ∙ sym (map-append f (reverse xs) (x ∷ [])) ∙ ap (map f) (sym (reverse-append (x ∷ []) xs))
 
-pub accounts-looked : (gs ts : List Entry) (rs : List Record) (cs : List Conn) → ((c : Conn) → Memᴰ c cs → Unmet c) → accounts_of gs ts (map (λ r. noted_by (view_of (by_tag r.tag cs)) r) rs) ≡ looked cs (accounts_of gs ts rs)
-accounts-looked gs ts rs cs unmet = ap (map (account gs ts)) (map-reverse (λ r. noted_by (view_of (by_tag r.tag cs)) r) rs) ∙ map-map (account gs ts) (λ r. noted_by (view_of (by_tag r.tag cs)) r) (reverse rs) ∙
-    map_so _ _ (reverse rs) (λ r. note-account gs ts (by_tag r.tag cs) r (λ c e. unmet c (by_tag_mem r.tag cs c e).0)) ∙ sym (map-map (λ a. seen (by_tag a.tag cs) a) (account gs ts) (reverse rs))
+pub accounts-looked : (gs ts : List Entry) (rs : List Record) (cs : List Conn) → accounts_of gs ts (map (λ r. noted_by (view_of (by_tag r.tag cs)) r) rs) ≡ looked cs (accounts_of gs ts rs)
+accounts-looked gs ts rs cs = ap (map (account gs ts)) (map-reverse (λ r. noted_by (view_of (by_tag r.tag cs)) r) rs) ∙ map-map (account gs ts) (λ r. noted_by (view_of (by_tag r.tag cs)) r) (reverse rs) ∙
+    map_so _ _ (reverse rs) (λ r. note-account gs ts (by_tag r.tag cs) r) ∙ sym (map-map (λ a. seen (by_tag a.tag cs) a) (account gs ts) (reverse rs))
 
 -- a book with the same items keeps the same
 pub keeps_as : (x y : Book) (cs : List Conn) → vec_items y.records ≡ vec_items x.records → vec_items y.given ≡ vec_items x.given → vec_items y.taken ≡ vec_items x.taken → Keeps x cs → Keeps y cs
@@ -71,9 +67,9 @@ keeps_as x y cs r g t k = record {
 
 -- what is written down, after a look at the connections
 pub keeps_look : (x y : Book) (ds : List Conn) → ((t : ℕ) → is_in t (tags ds) ≡ false → bytes_of t (vec_items x.given) ≡ []) → ((t : ℕ) → is_in t (tags ds) ≡ false → bytes_of t (vec_items x.taken) ≡ []) →
-    Looked ds x y → ((c : Conn) → Memᴰ c ds → Unmet c) → Tell (looked ds (accounts x)) ds → Keeps y ds
-keeps_look x y ds g h l unmet t = record {
-  tell = subst (λ z. Tell z ds) (sym (same ∙ accounts-looked (vec_items x.given) (vec_items x.taken) (vec_items x.records) ds unmet)) t;
+    Looked ds x y → Tell (looked ds (accounts x)) ds → Keeps y ds
+keeps_look x y ds g h l t = record {
+  tell = subst (λ z. Tell z ds) (sym (same ∙ accounts-looked (vec_items x.given) (vec_items x.taken) (vec_items x.records) ds)) t;
   none_given = λ u e. ap (λ z. bytes_of u (vec_items z)) l.given ∙ g u e;
   none_taken = λ u e. ap (λ z. bytes_of u (vec_items z)) l.taken ∙ h u e;
 }

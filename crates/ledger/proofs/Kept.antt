@@ -36,7 +36,7 @@ module _ (o : Who) (w : World) (s : Sound (end o w).conns w.drawn) (x : Book) (k
 
   -- nothing is written down but what is seen
   seen-only : (v : World) (y : Book) → Wider o w v → After o v (accounts x) → Looked (end o v).conns x y → Keeps y (end o v).conns
-  seen-only v y wide a l = keeps_look x y (end o v).conns (none_wider _ _ _ wide k.none_given) (none_wider _ _ _ wide k.none_taken) l a.unmet a.tell
+  seen-only v y wide a l = keeps_look x y (end o v).conns (none_wider _ _ _ wide k.none_given) (none_wider _ _ _ wide k.none_taken) l a
 
   pub keeps_close : (t : ℕ) (y : Book) → Looked (end o (put o (changed t closes (end o w)) [] [] w)).conns x y → Keeps y (end o (put o (changed t closes (end o w)) [] [] w)).conns
   keeps_close t y l = seen-only (put o (changed t closes (end o w)) [] [] w) y (wider_change t closes [] (λ _. refl)) (after-close o w s (accounts x) k.tell t) l
@@ -49,28 +49,24 @@ module _ (o : Who) (w : World) (s : Sound (end o w).conns w.drawn) (x : Book) (k
       Looked (end o (put o (changed t (gives bs) (end o w)) [] [] w)).conns y z → Keeps z (end o (put o (changed t (gives bs) (end o w)) [] [] w)).conns
   keeps_gave t c bs y z f free er eg et l = keeps_look y z (end o (put o (changed t (gives bs) (end o w)) [] [] w)).conns
       (λ u h. ap (bytes_of u) eg ∙ none_wider _ _ _ (wider_change t (gives bs) [] (λ _. refl)) (none_wrote _ _ t c bs f k.none_given) u h)
-      (λ u h. ap (bytes_of u) et ∙ none_wider _ _ _ (wider_change t (gives bs) [] (λ _. refl)) k.none_taken u h) l after.unmet after.tell
+      (λ u h. ap (bytes_of u) et ∙ none_wider _ _ _ (wider_change t (gives bs) [] (λ _. refl)) k.none_taken u h) l
+      (subst (After o (put o (changed t (gives bs) (end o w)) [] [] w)) (sym same) (after-gave o w s (accounts x) k.tell t c bs f free))
     where
       same : accounts y ≡ map (gave t bs) (accounts x)
       same = ap (λ r. accounts_of (vec_items y.given) (vec_items y.taken) r) er ∙ ap (λ g. accounts_of g (vec_items y.taken) (vec_items x.records)) eg ∙ ap (λ h. accounts_of (vec_items x.given ++ entries t bs) h (vec_items x.records)) et ∙
           accounts-gave (vec_items x.given) (vec_items x.taken) (vec_items x.records) t bs
-
-      after : After o (put o (changed t (gives bs) (end o w)) [] [] w) (accounts y)
-      after = subst (After o (put o (changed t (gives bs) (end o w)) [] [] w)) (sym same) (after-gave o w s (accounts x) k.tell t c bs f free)
 
   -- bytes taken
   pub keeps_took : (t : ℕ) (c : Conn) (n m : ℕ) (y z : Book) → by_tag t (end o w).conns ≡ There c → m ≡ min n (length c.got - c.taken) → vec_items y.records ≡ vec_items x.records → vec_items y.given ≡ vec_items x.given →
       vec_items y.taken ≡ vec_items x.taken ++ entries t (take m (drop c.taken c.got)) → Looked (end o (put o (changed t (takes n) (end o w)) [] [] w)).conns y z → Keeps z (end o (put o (changed t (takes n) (end o w)) [] [] w)).conns
   keeps_took t c n m y z f count er eg et l = keeps_look y z (end o (put o (changed t (takes n) (end o w)) [] [] w)).conns
       (λ u h. ap (bytes_of u) eg ∙ none_wider _ _ _ (wider_change t (takes n) [] (λ _. refl)) k.none_given u h)
-      (λ u h. ap (bytes_of u) et ∙ none_wider _ _ _ (wider_change t (takes n) [] (λ _. refl)) (none_wrote _ _ t c _ f k.none_taken) u h) l after.unmet after.tell
+      (λ u h. ap (bytes_of u) et ∙ none_wider _ _ _ (wider_change t (takes n) [] (λ _. refl)) (none_wrote _ _ t c _ f k.none_taken) u h) l
+      (subst (After o (put o (changed t (takes n) (end o w)) [] [] w)) (sym same) (after-took o w s (accounts x) k.tell t c n m f count))
     where
       same : accounts y ≡ map (took t (take m (drop c.taken c.got))) (accounts x)
       same = ap (λ r. accounts_of (vec_items y.given) (vec_items y.taken) r) er ∙ ap (λ g. accounts_of g (vec_items y.taken) (vec_items x.records)) eg ∙ ap (λ h. accounts_of (vec_items x.given) h (vec_items x.records)) et ∙
           accounts-took (vec_items x.given) (vec_items x.taken) (vec_items x.records) t (take m (drop c.taken c.got))
-
-      after : After o (put o (changed t (takes n) (end o w)) [] [] w) (accounts y)
-      after = subst (After o (put o (changed t (takes n) (end o w)) [] [] w)) (sym same) (after-took o w s (accounts x) k.tell t c n m f count)
 
   -- a connection more
   module _ (t : ℕ) (f : is_in t w.drawn ≡ false) where
@@ -83,11 +79,9 @@ module _ (o : Who) (w : World) (s : Sound (end o w).conns w.drawn) (x : Book) (k
 
     pub keeps_opened : (ps : List Packet) (y z : Book) → vec_items y.records ≡ vec_items x.records ++ fresh t ∷ [] → vec_items y.given ≡ vec_items x.given → vec_items y.taken ≡ vec_items x.taken →
         Looked (end o (put o (added (new Asked t 0) (end o w)) ps (t ∷ []) w)).conns y z → Keeps z (end o (put o (added (new Asked t 0) (end o w)) ps (t ∷ []) w)).conns
-    keeps_opened ps y z er eg et l = keeps_look y z _ (λ u h. ap (bytes_of u) eg ∙ none_wider _ _ _ wide k.none_given u h) (λ u h. ap (bytes_of u) et ∙ none_wider _ _ _ wide k.none_taken u h) l after.unmet after.tell
+    keeps_opened ps y z er eg et l = keeps_look y z _ (λ u h. ap (bytes_of u) eg ∙ none_wider _ _ _ wide k.none_given u h) (λ u h. ap (bytes_of u) et ∙ none_wider _ _ _ wide k.none_taken u h) l
+        (subst (After o (put o (added (new Asked t 0) (end o w)) ps (t ∷ []) w)) (sym (begun-accounts y er eg et)) (after-new o w s (accounts x) k.tell Asked t 0 ps refl refl f))
       where
-        after : After o (put o (added (new Asked t 0) (end o w)) ps (t ∷ []) w) (accounts y)
-        after = subst (After o (put o (added (new Asked t 0) (end o w)) ps (t ∷ []) w)) (sym (begun-accounts y er eg et)) (after-new o w s (accounts x) k.tell Asked t 0 ps refl refl f (λ _. refl))
-
         wide : Wider o w (put o (added (new Asked t 0) (end o w)) ps (t ∷ []) w)
         wide u h = ap (λ e. is_in u (tags e.conns)) (end-put o (added (new Asked t 0) (end o w)) ps (t ∷ []) w) ∙ in_new u (new Asked t 0) (end o w).conns h
 
@@ -102,9 +96,8 @@ module _ (o : Who) (w : World) (s : Sound (end o w).conns w.drawn) (x : Book) (k
         after = after-heard o w s (accounts x) k.tell cfg p t f h
 
         told : (q : Found) → by_tag t (end o (on_kind cfg o p t h w)).conns ≡ q → accounts y ≡ with_new t q (accounts x) → vec_items y.given ≡ vec_items x.given → vec_items y.taken ≡ vec_items x.taken → Keeps z (end o (on_kind cfg o p t h w)).conns
-        told q e ea eg et =
-            let a : After o (on_kind cfg o p t h w) (accounts y) = subst (After o (on_kind cfg o p t h w)) (ap (λ g. with_new t g (accounts x)) e ∙ sym ea) after.0 in
-            keeps_look y z (end o (on_kind cfg o p t h w)).conns (λ u i. ap (bytes_of u) eg ∙ none_wider _ _ _ after.1 k.none_given u i) (λ u i. ap (bytes_of u) et ∙ none_wider _ _ _ after.1 k.none_taken u i) l a.unmet a.tell
+        told q e ea eg et = keeps_look y z (end o (on_kind cfg o p t h w)).conns (λ u i. ap (bytes_of u) eg ∙ none_wider _ _ _ after.1 k.none_given u i) (λ u i. ap (bytes_of u) et ∙ none_wider _ _ _ after.1 k.none_taken u i) l
+            (subst (After o (on_kind cfg o p t h w)) (ap (λ g. with_new t g (accounts x)) e ∙ sym ea) after.0)
 
         go : (q : Found) → by_tag t (end o (on_kind cfg o p t h w)).conns ≡ q → Met t q x y → Keeps z (end o (on_kind cfg o p t h w)).conns
         go NotThere e (er, eg, et) = told NotThere e (same-accounts y er (ap vec_items eg) (ap vec_items et)) (ap vec_items eg) (ap vec_items et)

@@ -8,7 +8,7 @@ use Rattle.std.proofs.lemmas.Bool.Decides.{nat_tests}
 use Rattle.std.proofs.lemmas.Bool.{and_parts, and_from, not-true, eqb-true, eq-eqb, ne_eqb, cases_Bool, cond_both, cond-true, cond-false}
 use Rattle.hold.specs.Packet.{lower}
 use Rattle.hold.specs.Conn.{Conn, Phase, Gone, new, in_phase, gives, takes}
-use Rattle.hold.specs.World.{change, gone, is_open, is_asked, by_tag, Found, NotThere, There, is_in}
+use Rattle.hold.specs.World.{change, gone, is_open, by_tag, Found, NotThere, There, is_in}
 use Rattle.hold.specs.Promise.{tags, apart}
 use Rattle.hold.proofs.Bricks.{false_true}
 use Rattle.hold.proofs.Table.{mem_tags, one_tag, by_tag_mem, by_tag-finds, mem_changed, tags-change}
@@ -106,10 +106,6 @@ module _ (cs : List Conn) (t : ℕ) (f : Conn → Conn) (j : Account → Account
   look-change g k bs r = subst (λ z. Tell z (change t f cs)) (sym (map-map (λ a. seen (by_tag a.tag (change t f cs)) a) j bs))
       (tell_change t f (λ a. seen (by_tag (j a).tag (change t f cs)) (j a)) bs cs r one g (λ a c m q s. tells_again (change t f cs) one' opens (j a) c (mem_stays t f cs c q m) (k a c m q s)))
 
--- no tag of the other is known while it asks
-abbrev pub Unmet : Conn → Type 0
-Unmet c = is_asked c.phase ≡ true → c.theirs ≡ 0
-
 -- a connection that is changed, but for what its user gave and took
 pub record Turns (c d : Conn) : Type 0 where
   pub mine : d.mine ≡ c.mine
@@ -119,7 +115,6 @@ pub record Turns (c d : Conn) : Type 0 where
   pub taken : d.taken ≡ c.taken
   pub lives : gone d.phase ≡ false
   pub opened : (c.opened || is_open d.phase) ≡ d.opened
-  pub unmet : Unmet c → Unmet d
 
 pub look-turn : (cs : List Conn) (t : ℕ) (f : Conn → Conn) → apart (tags cs) ≡ true → ((c : Conn) → (f c).mine ≡ c.mine) → ((c : Conn) → Memᴰ c (change t f cs) → is_open c.phase ≡ true → c.opened ≡ true) →
     ((c : Conn) → Memᴰ c cs → c.mine ≡ t → gone c.phase ≡ false → Turns c (f c)) → (bs : List Account) → Tell bs cs → Tell (looked (change t f cs) bs) (change t f cs)

@@ -1,5 +1,5 @@
 -- The accounts that a book has.
-use Rattle.std.specs.Prelude.{◌≡◌, ℕ, false, cond, ◌||◌, List, [], ◌∷◌, ◌++◌, map, reverse, length, Some, None, unwrap_or, vec_items, Option, ◌==◌}
+use Rattle.std.specs.Prelude.{◌≡◌, ℕ, false, cond, not, ◌||◌, List, [], ◌∷◌, ◌++◌, map, reverse, length, Some, None, vec_items, Option, ◌==◌}
 use Rattle.hold.specs.World.{is_open, is_asked, Found, NotThere, There, by_tag, is_in}
 use Rattle.hold.specs.Code.{owes}
 use Rattle.hold.specs.Conn.{Conn}
@@ -15,16 +15,19 @@ abbrev pub fresh : ℕ → Record
 fresh t = record { tag = t; peer = 0; opened = false; closed = false; arrived = 0; heard = false; told = false; upto = 0; all = false }
 
 abbrev pub noted : View → Record → Record
-noted v r = record { tag = r.tag; peer = unwrap_or v.peer 0; opened = r.opened || v.opened; closed = v.closed; arrived = v.arrived; heard = v.heard; told = v.told; upto = v.upto; all = v.all }
+noted v r = record { tag = r.tag; peer = v.peer; opened = r.opened || v.opened; closed = v.closed; arrived = v.arrived; heard = v.heard; told = v.told; upto = v.upto; all = v.all }
 
--- the other's tag, once it is known
+-- the other's tag, once it is known: of a connection of the model, and of what is to be seen of one
 abbrev pub peer_of : Conn → Option ℕ
 peer_of c = cond (is_asked c.phase) None (Some c.theirs)
+
+abbrev pub partner_of : View → Option ℕ
+partner_of v = cond v.settled (Some v.peer) None
 
 -- what is to be seen of a connection of the model
 abbrev pub view_of : Found → Option View
 view_of NotThere = None
-view_of (There c) = Some (record { peer = peer_of c; opened = is_open c.phase; given = length c.given; closed = c.closed; arrived = length c.got; heard = is_said c.end; told = c.ended; upto = c.upto; all = c.all; owes = owes c })
+view_of (There c) = Some (record { peer = c.theirs; settled = not (is_asked c.phase); opened = is_open c.phase; given = length c.given; closed = c.closed; arrived = length c.got; heard = is_said c.end; told = c.ended; upto = c.upto; all = c.all; owes = owes c })
 
 abbrev pub entries : ℕ → List ℕ → List Entry
 entries t bs = map (λ b. record { tag = t; byte = b }) bs

@@ -1,11 +1,14 @@
 ghost use Rattle.std.specs.Prelude.{◌≡◌};
-ghost use Rattle.ledger.specs.Books.{fresh, noted};
+ghost use Rattle.ledger.specs.Books.{fresh, noted, partner_of};
 
 /// What is to be seen of a connection at some moment.
 #[derive(Clone, Copy, PartialEq, Eq, Debug)]
 pub struct View {
     /// The other's tag, once it is known.
-    pub peer: Option<u64>,
+    // A number with a flag and no Option: a connection that only asked has a number there too, which a look tells as it is.
+    pub peer: u64,
+    /// It is half open or open, so that the other's tag is known.
+    pub settled: bool,
     /// It is open now.
     pub opened: bool,
     /// So many bytes its user gave.
@@ -29,7 +32,7 @@ pub struct View {
 #[derive(Clone, Copy, PartialEq, Eq, Debug)]
 pub struct Record {
     pub tag: u64,
-    /// The other's tag, or 0 before it is known.
+    /// The other's tag, once it is known; before that, what its connection has there. 0 in a new record.
     // A number and no Option: an account of the sentence has a number here, and no connection has the tag 0.
     pub peer: u64,
     /// It was ever open.
@@ -47,6 +50,15 @@ pub struct Record {
 pub struct Entry {
     pub tag: u64,
     pub byte: u8,
+}
+
+impl View {
+    /// The other's tag, once it is known.
+    pub fn partner(self) -> Option<u64>
+        ensures { result ≡ partner_of self }
+    {
+        self.settled.then_some(self.peer)
+    }
 }
 
 impl Record {
@@ -72,7 +84,7 @@ impl Record {
     {
         Record {
             tag: self.tag,
-            peer: v.peer.unwrap_or(0),
+            peer: v.peer,
             opened: self.opened || v.opened,
             closed: v.closed,
             arrived: v.arrived,

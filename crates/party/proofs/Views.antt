@@ -1,6 +1,5 @@
 -- What is seen of a connection of the code is what is to be seen of the model's.
-use Rattle.std.proofs.Common.{◌≡◌, ℕ, Bool, true, false, not, cond, List, get_or, is_some, Some, None, Option, refl, sym, ap, ◌∙◌}
-use Rattle.std.specs.Bool.{then_some}
+use Rattle.std.proofs.Common.{◌≡◌, ℕ, Bool, not, List, get_or, is_some, Some, None, Option, refl, sym, ap, ◌∙◌}
 use Rattle.hold.specs.Code.{owes}
 use Rattle.hold.specs.Conn.{Conn}
 use Rattle.hold.specs.Packet.{Settings}
@@ -20,7 +19,7 @@ use Rattle.table.proofs.Housing.{is_there_lem, not_there}
 use Rattle.table.proofs.Lodging.{by_tag_lem}
 
 abbrev view_from : Connection → Bool → View
-view_from x b = record { peer = cond (is_asked (phase_of x.pairing.phase)) None (Some x.pairing.theirs); opened = is_open (phase_of x.pairing.phase); given = x.stream.sender.given; closed = x.stream.closed; arrived = x.stream.receiver.got; heard = is_said (last_of x.stream.end); told = x.stream.ended; upto = x.stream.sender.upto; all = x.stream.all; owes = b }
+view_from x b = record { peer = x.pairing.theirs; settled = not (is_asked (phase_of x.pairing.phase)); opened = is_open (phase_of x.pairing.phase); given = x.stream.sender.given; closed = x.stream.closed; arrived = x.stream.receiver.got; heard = is_said (last_of x.stream.end); told = x.stream.ended; upto = x.stream.sender.upto; all = x.stream.all; owes = b }
 
 pub said : (end : Option ℕ) → is_some end ≡ is_said (last_of end)
 said None = refl
@@ -28,10 +27,6 @@ said (Some p) = refl
 
 pub view_is : (cfg : Settings) (mem : Rings) (x : Connection) (d : Conn) → Stand1 cfg x mem d → Some (view_from x (owes d)) ≡ view_of (There d)
 view_is cfg mem x d s = let g = s.holds.got_all in let h = s.waits.given_all in let e = s.is in cc
-
-pub known : (a : Bool) (t : ℕ) → then_some (not a) t ≡ cond a None (Some t)
-known true t = refl
-known false t = refl
 
 -- by a search
 pub look_none : (cfg : Settings) (mem : ℕ → Rings) (x : Table) (cs : List Conn) (t : ℕ) → Lodges cfg mem x cs → None ≡ finds (Tag t) x → None ≡ view_of (by_tag t cs)

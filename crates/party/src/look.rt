@@ -15,7 +15,8 @@ fn view(c: &Connection) -> View
     ensures { (cfg : Settings) (mem : Rings) (d : Conn) → Stand1 cfg c.now mem d → Some result ≡ view_of (There d) }
 {
     View {
-        peer: (!c.pairing.is_asked()).then_some(c.pairing.theirs),
+        peer: c.pairing.theirs,
+        settled: !c.pairing.is_asked(),
         opened: c.pairing.speaks(),
         given: c.stream.sender.given,
         closed: c.stream.closed,

@@ -1,11 +1,10 @@
-use Rattle.party.proofs.Views.{known, said, view_is}
+use Rattle.party.proofs.Views.{said, view_is}
 use Rattle.party.proofs.look.view.Goals as goal
 
 pub returns : goal.returns
 returns c cfg mem d s =
     let e = view_is cfg mem c.args.c.now d s in
     let a = c.is_asked.ensures in
-    let p = known c.is_asked.result c.args.c.now.pairing.theirs in
     let b = c.speaks.ensures in
     let h = c.is_some.ensures in
     let k = said c.args.c.now.stream.end in
