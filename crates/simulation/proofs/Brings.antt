@@ -21,7 +21,7 @@ use Rattle.table.specs.declared.Table.{Table}
 use Rattle.table.specs.declared.Wanted.TheVariants.{Tag}
 use Rattle.table.proofs.Housing.{Agree}
 use Rattle.table.proofs.Lodging.{by_tag_lem}
-use Rattle.ledger.specs.Books.{accounts, peer_of, view_of}
+use Rattle.ledger.specs.Books.{accounts, partner_of, peer_of, view_of}
 use Rattle.ledger.specs.Sentence.{Account}
 use Rattle.ledger.specs.Tells.{Tells}
 use Rattle.ledger.specs.declared.record.View.{View}
@@ -30,7 +30,7 @@ use Rattle.party.specs.declared.Fault.{Fault}
 use Rattle.simulation.specs.Carry.{Brought, Carried, Driven, Seen, driven_to}
 use Rattle.simulation.specs.Shows.{Runs, Shows, party_of}
 use Rattle.simulation.specs.declared.pair.Pair.{Pair}
-use Rattle.simulation.proofs.Moving.{peer_parts}
+use Rattle.simulation.proofs.Moving.{partner_is, peer_parts}
 
 cfg-at : (cfg : m.Settings) (p : Pair) (w : World) → Shows cfg p w → 0 < cfg.room
 cfg-at cfg p w s = let k = p.halves.left.party.end.settings.some in omega (arith, k, ap (λ z. z.room) (s.settings L))
@@ -51,19 +51,19 @@ lives_of Gone g a = false_true _ g refl
 
 -- a connection that is seen
 abbrev FoundAs : List Conn → ℕ → View → Type 0
-FoundAs cs t v = (c : Conn) × (by_tag t cs ≡ There c) × (v.peer ≡ peer_of c) × (v.given ≡ length c.given) × (v.arrived ≡ length c.got)
+FoundAs cs t v = (c : Conn) × (by_tag t cs ≡ There c) × (partner_of v ≡ peer_of c) × (v.given ≡ length c.given) × (v.arrived ≡ length c.got)
 
 found_as : (cs : List Conn) (t : ℕ) (v : View) → Some v ≡ view_of (by_tag t cs) → FoundAs cs t v
 found_as cs t v e = go (by_tag t cs) refl e
   where
     go : (f : Found) → by_tag t cs ≡ f → Some v ≡ view_of f → FoundAs cs t v
     go NotThere q i = absurd (let z : ◌≡◌ {A = ℕ} 0 1 = cc in omega arith)
-    go (There c) q i = let b : v.peer ≡ peer_of c = cc in let g : v.given ≡ length c.given = cc in let r : v.arrived ≡ length c.got = cc in (c, q, b, g, r)
+    go (There c) q i = let g : v.given ≡ length c.given = cc in let r : v.arrived ≡ length c.got = cc in (c, q, partner_is v c i, g, r)
 
-module _ (p q : Pair) (o : Who) (t u n : ℕ) (vc vd : View) (see-c : Seen p o t (Some vc)) (see-d : Seen p (other o) u (Some vd)) (sc : vc.peer ≡ Some u) (sd : vd.peer ≡ Some t)
+module _ (p q : Pair) (o : Who) (t u n : ℕ) (vc vd : View) (see-c : Seen p o t (Some vc)) (see-d : Seen p (other o) u (Some vd)) (sc : partner_of vc ≡ Some u) (sd : partner_of vd ≡ Some t)
     (rounds : n ≡ min ((vd.given - vc.arrived) + 2) (2 ^ 64 - 1)) where
   module _ (cfg : m.Settings) (es : List Ev) (s : Shows cfg p (world cfg es)) (c d : Conn) (fc : by_tag t (end o (world cfg es)).conns ≡ There c) (fd : by_tag u (end (other o) (world cfg es)).conns ≡ There d)
-      (pc : vc.peer ≡ peer_of c) (rc : vc.arrived ≡ length c.got) (pd : vd.peer ≡ peer_of d) (gd : vd.given ≡ length d.given) where
+      (pc : partner_of vc ≡ peer_of c) (rc : vc.arrived ≡ length c.got) (pd : partner_of vd ≡ peer_of d) (gd : vd.given ≡ length d.given) where
     mine_c : c.mine ≡ t
     mine_c = (by_tag_mem t _ c fc).1
 

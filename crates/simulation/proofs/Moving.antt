@@ -16,7 +16,7 @@ use Rattle.hold.proofs.Table.{by_tag_mem}
 use Rattle.packet.specs.Packets.{packet}
 use Rattle.packet.specs.declared.packet.Packet.{Packet}
 use Rattle.endpoint.specs.Saying.{upto_of}
-use Rattle.ledger.specs.Books.{peer_of, view_of}
+use Rattle.ledger.specs.Books.{partner_of, peer_of, view_of}
 use Rattle.ledger.specs.declared.record.View.{View}
 use Rattle.simulation.specs.Carry.{Goes, HeardLatest, Latest, Made1, Seen}
 use Rattle.simulation.specs.Shows.{Does, Placed, Shows, answers, net_of, net_to, who_of}
@@ -76,6 +76,14 @@ clock_some o t cs e = go (by_tag t cs) refl e
 pub makes_as : (cfg : m.Settings) (q : Pair) (es fs gs : List Ev) (n : ℕ) → gs ≡ fs → length fs ≡ n → Shows cfg q (world cfg (fs ++ es)) → Shows cfg q (world cfg (gs ++ es)) × (length gs ≡ n)
 makes_as cfg q es fs gs n e l s = (subst (λ z. Shows cfg q (world cfg (z ++ es))) (sym e) s, ap length e ∙ l)
 
+-- the other's tag as it is seen is that of the connection
+pub partner_is : (v : View) (c : Conn) → Some v ≡ view_of (There c) → partner_of v ≡ peer_of c
+partner_is v c e = let a : v.settled ≡ not (is_asked c.phase) = cc in let b : v.peer ≡ c.theirs = cc in ap (λ z. cond z (Some v.peer) None) a ∙ ap (λ z. cond (not (is_asked c.phase)) (Some z) None) b ∙ turned (is_asked c.phase) c.theirs
+  where
+    turned : (b : Bool) (x : ℕ) → cond (not b) (Some x) None ≡ cond b None (Some x)
+    turned true x = refl
+    turned false x = refl
+
 -- the other's tag, where it is known
 pub peer_parts : (b : Bool) (x t : ℕ) → cond b None (Some x) ≡ Some t → (not b ≡ true) × (x ≡ t)
 peer_parts true x t e = absurd (let z : ◌≡◌ {A = ℕ} 0 1 = cc in omega arith)
@@ -101,18 +109,18 @@ module _ (cfg : m.Settings) (o : Who) (k : m.Packet) where
 
   module _ (cs : List Conn) (v : View) (e : Some v ≡ view_of (by_tag k.to cs)) where
     -- by cases of what was found
-    found : (fs : List Ev) → ((c : Conn) → c.mine ≡ k.to → v.peer ≡ peer_of c → v.opened ≡ is_open c.phase → by_tag k.to cs ≡ There c → on_hearing cfg o k (There c) ≡ fs) → on_hearing cfg o k (by_tag k.to cs) ≡ fs
+    found : (fs : List Ev) → ((c : Conn) → c.mine ≡ k.to → partner_of v ≡ peer_of c → v.opened ≡ is_open c.phase → by_tag k.to cs ≡ There c → on_hearing cfg o k (There c) ≡ fs) → on_hearing cfg o k (by_tag k.to cs) ≡ fs
     found fs g = go (by_tag k.to cs) refl e
       where
         go : (f : Found) → by_tag k.to cs ≡ f → Some v ≡ view_of f → on_hearing cfg o k f ≡ fs
         go NotThere q i = absurd (let z : ◌≡◌ {A = ℕ} 0 1 = cc in omega arith)
-        go (There c) q i = let a : v.peer ≡ peer_of c = cc in let d : v.opened ≡ is_open c.phase = cc in g c (by_tag_mem k.to cs c q).1 a d q
+        go (There c) q i = let d : v.opened ≡ is_open c.phase = cc in g c (by_tag_mem k.to cs c q).1 (partner_is v c i) d q
 
-    pub hearing_other : (v.peer ≡ Some k.from → ⊥) → on_hearing cfg o k (by_tag k.to cs) ≡ []
+    pub hearing_other : (partner_of v ≡ Some k.from → ⊥) → on_hearing cfg o k (by_tag k.to cs) ≡ []
     hearing_other h = found [] (λ c _ a _ _. cond-false _ _ _ (peer_is-not (is_asked c.phase) c.theirs k.from (λ z. h (a ∙ z))))
 
-    module _ (p : v.peer ≡ Some k.from) where
-      for_it : (c : Conn) → v.peer ≡ peer_of c → (not (is_asked c.phase) && eqb c.theirs k.from) ≡ true
+    module _ (p : partner_of v ≡ Some k.from) where
+      for_it : (c : Conn) → partner_of v ≡ peer_of c → (not (is_asked c.phase) && eqb c.theirs k.from) ≡ true
       for_it c a = let (x, y) = peer_parts (is_asked c.phase) c.theirs k.from (sym a ∙ p) in and_from _ _ x (eq-eqb _ _ y)
 
       pub hearing_answer : wants_answer k ≡ true → on_hearing cfg o k (by_tag k.to cs) ≡ Sends o k.to (upto_of (by_tag k.to cs)) cfg.size ∷ []
@@ -148,10 +156,10 @@ module _ (p q : Pair) (o : Who) (x : Packet) (came : HeardLatest p q o (Ok x)) w
   brings_none n = brought q 1 (λ cfg es h. ([], hearing_none cfg o (packet x) _ (n cfg _ h), refl, h))
 
   module _ (v : View) (seen : Seen q o x.head.to (Some v)) where
-    pub brings_other : (v.peer ≡ Some x.head.from → ⊥) → Made1 p q (Brings o 0 0) (Ok 1)
+    pub brings_other : (partner_of v ≡ Some x.head.from → ⊥) → Made1 p q (Brings o 0 0) (Ok 1)
     brings_other a = brought q 1 (λ cfg es h. ([], hearing_other cfg o (packet x) _ v (seen cfg _ h) a, refl, h))
 
-    module _ (k : v.peer ≡ Some x.head.from) where
+    module _ (k : partner_of v ≡ Some x.head.from) where
       pub brings_answer : (r : Pair) → wants_answer (packet x) ≡ true → Does q r (answers q o x.head.to) → Made1 p r (Brings o 0 0) (Ok 2)
       brings_answer r a d = brought r 2 (λ cfg es h.
           (_, hearing_answer cfg o (packet x) _ v (seen cfg _ h) k a, refl, subst (λ z. Shows cfg r (world cfg (z ++ (Hears o 0 0 ∷ es)))) (answers_are cfg q _ h o x.head.to) (d cfg (Hears o 0 0 ∷ es) h)))

@@ -24,10 +24,10 @@ abbrev pub Latest : List Packet → Option Packet → Type 0
 Latest net None = net ≡ []
 Latest net (Some p) = (qs : List m.Packet) × (net_of net ≡ packet p ∷ qs)
 
--- the latest packet came to a side and was heard
+-- the latest packet came to a side and was heard; where that was refused nothing happened
 abbrev pub HeardLatest : Pair → Pair → Who → Result Packet Fault → Type 0
 HeardLatest p q o (Ok x) = Latest (net_to o p) (Some x) × Does p q (λ _. Hears o 0 0 ∷ [])
-HeardLatest p q o (Err f) = Goes p q
+HeardLatest p q o (Err f) = Does p q (λ _. [])
 
 -- the connection of a tag, as it is to be seen
 abbrev pub Seen : Pair → Who → ℕ → Option View → Type 0

@@ -86,7 +86,7 @@ impl<'m> Pair<'m> {
         let Some(v) = self.look(side, tag) else {
             return Ok(1);
         };
-        if v.peer != Some(p.head.from) {
+        if v.partner() != Some(p.head.from) {
             return Ok(1);
         }
         if wants_answer(&p) {
@@ -130,9 +130,9 @@ impl<'m> Pair<'m> {
         ensures { Carried self.old self.new (who_of side) tag result }
     {
         let c = self.look(side, tag).ok_or(Refusal::NotThere)?;
-        let peer = c.peer.ok_or(Refusal::NotThere)?;
+        let peer = c.partner().ok_or(Refusal::NotThere)?;
         let d = self.look(side.other(), peer).ok_or(Refusal::NotThere)?;
-        if d.peer != Some(tag) {
+        if d.partner() != Some(tag) {
             return Err(Fault::Unfit);
         }
         let most = d.given.saturating_sub(c.arrived).saturating_add(2);

@@ -1,9 +1,11 @@
-ghost use Rattle.std.specs.Prelude.{◌≡◌};
+ghost use Rattle.std.specs.Prelude.{◌≡◌, [], ◌∷◌};
+ghost use Rattle.hold.specs.World.{Takes};
+ghost use Rattle.packet.specs.Sizes.{capacity};
 ghost use Rattle.simulation.specs.Events.{done_by, events};
-ghost use Rattle.simulation.specs.Shows.{Does};
+ghost use Rattle.simulation.specs.Shows.{Does, when_ok, who_of};
 
 use crate::command::{Answer, Command};
-use crate::pair::Pair;
+use crate::pair::{Pair, Side};
 use packet::settings::CAPACITY;
 use party::Fault;
 
@@ -14,6 +16,14 @@ fn done(r: Result<(), Fault>) -> Result<Answer, Fault>
 }
 
 impl<'m> Pair<'m> {
+    /// The user takes all there is.
+    // A function of its own: among the arms of `obey` the buffer would be put to 0 by a line of any kind.
+    fn take_all(&mut self, side: Side, tag: u64) -> Result<usize, Fault>
+        ensures { Does self.old self.new (λ _. when_ok (λ _. Takes (who_of side) tag capacity ∷ []) result) }
+    {
+        self.take(side, tag, &mut [0; CAPACITY])
+    }
+
     /// One line of a script.
     pub fn obey(&mut self, command: Command<'_>) -> Result<Answer, Fault>
         ensures { Does self.old self.new (events self.old command.entry result) }
@@ -25,10 +35,7 @@ impl<'m> Pair<'m> {
             }
             Command::Open(side, tag) => done(self.open(side, tag)),
             Command::Give(side, tag, bytes) => self.give(side, tag, bytes).map(Answer::Gave),
-            Command::Take(side, tag) => {
-                let mut out = [0; CAPACITY];
-                self.take(side, tag, &mut out).map(Answer::Took)
-            }
+            Command::Take(side, tag) => self.take_all(side, tag).map(Answer::Took),
             Command::Close(side, tag) => done(self.close(side, tag)),
             Command::Break(side, tag) => done(self.break_off(side, tag)),
             Command::Forget(side, tag) => done(self.forget(side, tag)),

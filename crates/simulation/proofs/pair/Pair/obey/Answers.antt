@@ -35,7 +35,7 @@ pub returns-in-Give : goal.returns-in-Give
 returns-in-Give c = rw c.in-Give.is (told_when c.args.self.now _ (λ n. Gives (who_of c.in-Give.side) c.in-Give.tag (take n c.in-Give.bytes.now) ∷ []) (λ a. Gives (who_of c.in-Give.side) c.in-Give.tag (take (count a) c.in-Give.bytes.now) ∷ []) Gave c.give.result _ c.map.ensures.cases (λ _. refl) c.give.ensures)
 
 pub returns-in-Take : goal.returns-in-Take
-returns-in-Take c = rw c.in-Take.is (told_when c.args.self.now _ (λ _. Takes (who_of c.in-Take.side) c.in-Take.tag capacity ∷ []) (λ _. Takes (who_of c.in-Take.side) c.in-Take.tag capacity ∷ []) Took c.take.result _ c.map-in-Take.ensures.cases (λ _. refl) c.take.ensures)
+returns-in-Take c = rw c.in-Take.is (told_when c.args.self.now _ (λ _. Takes (who_of c.in-Take.side) c.in-Take.tag capacity ∷ []) (λ _. Takes (who_of c.in-Take.side) c.in-Take.tag capacity ∷ []) Took c.take_all.result _ c.map-in-Take.ensures.cases (λ _. refl) c.take_all.ensures)
 
 pub returns-in-Deliver : goal.returns-in-Deliver
 returns-in-Deliver c = rw c.in-Deliver.is (told_when c.args.self.now _ (λ k. Hears (who_of c.in-Deliver.side) k c.in-Deliver.draws ∷ []) (λ a. Hears (who_of c.in-Deliver.side) (count a) c.in-Deliver.draws ∷ []) Heard c.deliver.result _ c.map-in-Deliver.ensures.cases (λ _. refl) c.deliver.ensures.did)
