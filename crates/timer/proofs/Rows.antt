@@ -1,29 +1,11 @@
--- Rows: a closure called at each; one put in by its end.
-use Rattle.std.specs.Array.{IsMapOf, MapsFrom}
-use Rattle.std.specs.Fn.{Called}
+-- Rows: one put in by its end.
 use Rattle.std.specs.List.{position_or_len}
 use Rattle.std.specs.Option.{unwrap_or}
-use Rattle.std.proofs.Common.{◌≡◌, ℕ, zero, suc, ◌+◌, ◌<◌, ◌≤◌, ltb, Bool, true, false, cond, not, Option, Some, None, List, [], ◌∷◌, ◌++◌, map, length, get_or, take, drop, set, sym, refl, subst, ⊎_elim, ap, ◌∙◌, arith}
-use Rattle.std.proofs.lemmas.List.{ext_get_or, length-map, get_or-map}
+use Rattle.std.proofs.Common.{◌≡◌, ℕ, zero, suc, ◌+◌, ◌≤◌, ltb, Bool, true, false, cond, not, Option, Some, None, List, [], ◌∷◌, ◌++◌, length, take, drop, set, sym, refl, ap, ◌∙◌, arith}
 use Rattle.std.proofs.lemmas.List.Sums.{prefix_len-le-length}
-use Rattle.std.proofs.lemmas.Bool.{cases_lt}
 use Rattle.std.proofs.lemmas.Bool.Decides.{nat_tests}
-use denote.Param.Members.{Mut}
 use Rattle.timer.specs.declared.flight.Row.{Row}
-use Rattle.timer.specs.Flight.{blank, insert, pushed}
-
--- what `map` of an array of rows gives, where the closure computes h and stays as it is
-module _ {F : Type 0} (g : Mut F (Row × Unit {0}) Row) (h : Row → Row) (f : F) (computes : (x y : Row) (q : F) → Called g f (x, tt) y q → (q ≡ f) × (y ≡ h x)) (xs ys : List Row) where
-  each_maps : (i n : ℕ) → MapsFrom g f xs ys i n → (j : ℕ) → i ≤ j → j < i + n → get_or ys j blank ≡ h (get_or xs j blank)
-  each_maps i zero m j a b = absurd (omega arith)
-  each_maps i (suc n) (q, x, y, ex, ey, c, rest) j a b = ⊎_elim
-      (λ l. each_maps (i + 1) n (subst (λ z. MapsFrom g z xs ys (i + 1) n) (computes x y q c).0 rest) j (omega arith) (omega arith))
-      (λ l. let e : j ≡ i = omega arith in rw e (ey.1 blank ∙ (computes x y q c).1 ∙ ap h (sym (ex.1 blank))))
-      (cases_lt i j)
-
-  pub map_of : (n : ℕ) → IsMapOf g f xs ys n → length xs ≡ n → ys ≡ map h xs
-  map_of n m l = ext_get_or blank ys (map h xs) (m.long ∙ sym l ∙ sym (length-map xs h)) (λ i w.
-      each_maps 0 n m.each i (omega arith) (omega (arith, m.long)) ∙ sym (get_or-map h xs i blank blank (omega (arith, m.long))))
+use Rattle.timer.specs.Flight.{insert, pushed}
 
 abbrev pub ends_after : Row → Row → Bool
 ends_after x y = ltb x.end y.end

@@ -43,18 +43,22 @@ impl Flight {
     pub fn resent(self, place: u64, end: u64) -> Flight
         ensures { result.rows ≡ map (spec.resent place end) self.rows }
     {
-        Flight {
-            rows: self.rows.map(|row| row.resent(place, end)),
+        let mut rows = self.rows;
+        for row in &mut rows {
+            *row = row.resent(place, end);
         }
+        Flight { rows }
     }
 
     /// The rows when so much is confirmed: those that are confirmed aren't measured again.
     pub fn settled(self, upto: u64) -> Flight
         ensures { result.rows ≡ map (spec.settled upto) self.rows }
     {
-        Flight {
-            rows: self.rows.map(|row| row.settled(upto)),
+        let mut rows = self.rows;
+        for row in &mut rows {
+            *row = row.settled(upto);
         }
+        Flight { rows }
     }
 
     /// A row more, in its place by its end; the one with the lowest end is left out.

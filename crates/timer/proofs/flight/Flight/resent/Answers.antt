@@ -1,7 +1,11 @@
-use Rattle.std.proofs.Common.{rules, tests}
+use Rattle.std.proofs.Common.{rules}
+use Rattle.std.proofs.lemmas.List.{take_all, drop_all}
+use Rattle.std.proofs.lemmas.List.Edits.{map_over_more}
 use Rattle.timer.specs.Flight.{resent}
-use Rattle.timer.proofs.Rows.{map_of}
 use Rattle.timer.proofs.flight.Flight.resent.Goals as goal
 
+pub loop-row-preserved : goal.loop-row-preserved
+loop-row-preserved c = search (rules, map_over_more (resent c.args.place c.args.end))
+
 pub returns : goal.returns
-returns c = map_of _ (resent c.args.place c.args.end) _ (λ x y q k. search (rules, tests)) c.args.self.rows c.map.result 16 c.map.ensures.items (search rules)
+returns c = search (rules, take_all, drop_all)

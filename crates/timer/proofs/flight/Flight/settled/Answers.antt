@@ -1,7 +1,11 @@
-use Rattle.std.proofs.Common.{rules, tests}
+use Rattle.std.proofs.Common.{rules}
+use Rattle.std.proofs.lemmas.List.{take_all, drop_all}
+use Rattle.std.proofs.lemmas.List.Edits.{map_over_more}
 use Rattle.timer.specs.Flight.{settled}
-use Rattle.timer.proofs.Rows.{map_of}
 use Rattle.timer.proofs.flight.Flight.settled.Goals as goal
 
+pub loop-row-preserved : goal.loop-row-preserved
+loop-row-preserved c = search (rules, map_over_more (settled c.args.upto))
+
 pub returns : goal.returns
-returns c = map_of _ (settled c.args.upto) _ (λ x y q k. search (rules, tests)) c.args.self.rows c.map.result 16 c.map.ensures.items (search rules)
+returns c = search (rules, take_all, drop_all)
