@@ -1,15 +1,15 @@
 -- The bits of a word.
-use Rattle.std.proofs.Common.{◌≡◌, ℕ, zero, suc, ◌+◌, ◌-◌, ◌*◌, ◌/◌, ◌%◌, ◌^◌, ◌<◌, ◌≤◌, min, Bool, true, false, cond, not, ◌&&◌, ltb, leb, eqb, sym, refl, ap, ◌∙◌, ⊎_elim, arith, pow_pos, shr-shr, div-le_self}
+use Rattle.std.proofs.Common.{◌≡◌, ℕ, zero, suc, ◌+◌, ◌-◌, ◌*◌, ◌/◌, ◌%◌, ◌^◌, ◌<◌, ◌≤◌, min, Bool, true, false, cond, not, ◌&&◌, ltb, leb, eqb, sym, refl, ap, ◌∙◌, ⊎_elim, arith, pow_pos, shr-shr}
 use Rattle.std.proofs.Math.Bool.{not-not}
 use lib.Bits.{bit_and, bit_or}
 use lib.Count.{count_trailing_zeros, under}
 use Rattle.std.specs.Int.{bit_at, w64}
-use Rattle.std.proofs.lemmas.Bool.{eq-eqb, ne_eqb, cases_Bool, cases_eq, cases_lt}
+use Rattle.std.proofs.lemmas.Bool.{eq-eqb, ne_eqb, cases_eq, cases_lt}
 use Rattle.std.proofs.lemmas.Bool.Decides.{nat_tests}
 use Rattle.std.proofs.Math.Nat.{mul-sub}
 use Rattle.std.proofs.Math.Pow.{pow_mono}
 use Rattle.std.proofs.lemmas.Nat.{and_le_l, pow-add}
-use Rattle.std.proofs.lemmas.Nat.Bits.{bit_at-zero, shr_and_one, bit_at_and, bit_at_or, bit_at_not, bit_at-lt, bit_at-trailing_zeros, bit_at_ones, bit_at_ones_above, bit_at_mask_inside, bit_at_mask_below, bit_at_mask_above, ones_shl, ones_shr}
+use Rattle.std.proofs.lemmas.Nat.Bits.{bit_at-zero, shr_and_one, bit_at_and, bit_at_or, bit_at_not, bit_at-lt, bit_at_ones, bit_at_ones_above, bit_at_mask_inside, bit_at_mask_below, bit_at_mask_above, ones_shl, ones_shr}
 use Rattle.lent.specs.Bits.{bit}
 
 -- a digit as a truth value
@@ -65,7 +65,7 @@ module _ (w mask j : ℕ) (c : Bool) (at : bit_at mask j ≡ cond c 1 0) where
 row_is : (f c : ℕ) → (2 ^ c - 1) * 2 ^ f ≡ 2 ^ (f + c) - 2 ^ f
 row_is f c = let p = pow-add 2 f c in let m = mul-sub (2 ^ f) (2 ^ c) 1 in omega arith
 
--- the bits under such a row, put down
+-- the bits under such a row, put up or down
 module _ (w m f c j : ℕ) (em : m ≡ (2 ^ c - 1) * 2 ^ f) where
   row_at : bit_at m j ≡ cond (leb f j && ltb j (f + c)) 1 0
   row_at = ap (λ n. bit_at n j) (em ∙ row_is f c) ∙ ⊎_elim
@@ -75,6 +75,9 @@ module _ (w m f c j : ℕ) (em : m ≡ (2 ^ c - 1) * 2 ^ f) where
       (λ (h : f + c ≤ j). bit_at_mask_above f (f + c) j h ∙ grind (arith, nat_tests))
       (cases_lt j (f + c)))
       (cases_lt j f)
+
+  pub marked-up : bit (bit_or w m) j ≡ cond (leb f j && ltb j (f + c)) true (bit w j)
+  marked-up = up_by w m j (leb f j && ltb j (f + c)) row_at
 
   pub marked_down : f + c ≤ 64 → j < 64 → bit (bit_and w (2 ^ 64 - 1 - m)) j ≡ cond (leb f j && ltb j (f + c)) false (bit w j)
   marked_down le here = down_by w m j (leb f j && ltb j (f + c)) row_at small here
@@ -101,6 +104,17 @@ module _ (w f t j : ℕ) (before : f < 64) (some : 0 < t) (within : t ≤ 64) (h
   pub marked_down_to : bit (bit_and w (2 ^ 64 - 1 - mask)) j ≡ cond (leb f j && ltb j t) false (bit w j)
   marked_down_to = down_by w mask j (leb f j && ltb j t) mask_at (let l = and_le_l ((2 ^ 64 - 1) * 2 ^ f % 2 ^ 64) ((2 ^ 64 - 1) / 2 ^ (64 - t)) in omega arith) here
 
+-- below its lowest digit that is set, a number has zeros
+trailing_below : (k n j : ℕ) → j < count_trailing_zeros k n → bit_at n j ≡ 0
+unfolding count_trailing_zeros
+trailing_below zero n j l = absurd (omega arith)
+trailing_below (suc k) n j l = go (n % 2) refl j l (λ i h. trailing_below k (n / 2) i h)
+  where
+    go : (d : ℕ) → n % 2 ≡ d → (j : ℕ) → j < under d (count_trailing_zeros k (n / 2)) → ((i : ℕ) → i < count_trailing_zeros k (n / 2) → bit_at (n / 2) i ≡ 0) → bit_at n j ≡ 0
+    go zero e zero h r = let o : n / 1 ≡ n = omega arith in omega arith
+    go zero e (suc i) h r = let next : suc i ≡ 1 + i = omega arith in ap (bit_at n) next ∙ ap (λ m. m % 2) (sym (shr-shr n 1 i)) ∙ r i (omega arith)
+    go (suc d) e j h r = absurd (omega arith)
+
 -- above the zeros at its low end, a number has a one
 trailing_at : (k n : ℕ) → count_trailing_zeros k n < k → bit_at n (count_trailing_zeros k n) ≡ 1
 unfolding count_trailing_zeros
@@ -111,41 +125,31 @@ trailing_at (suc k) n l = go (n % 2) refl l (λ h. trailing_at k (n / 2) h)
     go zero e h r = let next : suc (count_trailing_zeros k (n / 2)) ≡ 1 + count_trailing_zeros k (n / 2) = omega arith in ap (bit_at n) next ∙ ap (λ m. m % 2) (sym (shr-shr n 1 (count_trailing_zeros k (n / 2)))) ∙ r (omega arith)
     go (suc d) e h r = omega arith
 
--- after n bits that are down, from f on
+-- a run of bits that are down, n of them from f on
 module _ (w f n : ℕ) (en : n ≡ min (count_trailing_zeros 64 (w / 2 ^ f)) (64 - f)) where
-  pub run_gap : f + n < 64 → bit w (f + n) ≡ true
-  run_gap h =
-      let e : n ≡ count_trailing_zeros 64 (w / 2 ^ f) = omega arith in
-      digit_up w (f + n) (ap (λ k. k % 2) (sym (shr-shr w f n)) ∙ ap (bit_at (w / 2 ^ f)) e ∙ trailing_at 64 (w / 2 ^ f) (omega arith))
-
--- a run of bits that are down, from f up to n
-module _ (w f n : ℕ) (size : w < 2 ^ 64) (en : n ≡ min (f + count_trailing_zeros 64 (w / 2 ^ f)) 64) where
-  low : w / 2 ^ f < 2 ^ 64
-  low = let d = div-le_self w (2 ^ f) in omega arith
-
-  -- of the word without its lowest f bits, those below the lowest that is up
-  below : (i : ℕ) → i < count_trailing_zeros 64 (w / 2 ^ f) → bit_at (w / 2 ^ f) i ≡ 0
-  below i l = ⊎_elim
-      (λ (z : w / 2 ^ f ≡ 0). ap (λ m. bit_at m i) z ∙ bit_at-zero i)
-      (λ (ne : w / 2 ^ f ≡ 0 → ⊥). (bit_at-trailing_zeros w64 (w / 2 ^ f) (omega arith) low).2 i l)
-      (cases_eq (w / 2 ^ f) 0)
-
   shifted : (i : ℕ) → bit_at (w / 2 ^ f) i ≡ bit_at w (f + i)
   shifted i = ap (λ k. k % 2) (shr-shr w f i)
 
-  all_down : (j : ℕ) → f ≤ j → j < n → bit w j ≡ false
-  all_down j lo hi =
+  pub run_down : (j : ℕ) → f ≤ j → j < f + n → bit w j ≡ false
+  run_down j lo hi =
       let e : f + (j - f) ≡ j = omega arith in
-      digit_down w j (ap (bit_at w) (sym e) ∙ sym (shifted (j - f)) ∙ below (j - f) (omega arith))
+      digit_down w j (ap (bit_at w) (sym e) ∙ sym (shifted (j - f)) ∙ trailing_below 64 (w / 2 ^ f) (j - f) (omega arith))
+
+  pub run_gap : f + n < 64 → bit w (f + n) ≡ true
+  run_gap h =
+      let e : n ≡ count_trailing_zeros 64 (w / 2 ^ f) = omega arith in
+      digit_up w (f + n) (sym (shifted n) ∙ ap (bit_at (w / 2 ^ f)) e ∙ trailing_at 64 (w / 2 ^ f) (omega arith))
+
+-- a run of bits that are down, from f up to n
+module _ (w f n : ℕ) (en : n ≡ min (f + count_trailing_zeros 64 (w / 2 ^ f)) 64) where
+  all_down : (j : ℕ) → f ≤ j → j < n → bit w j ≡ false
+  all_down j lo hi = run_down w f (n - f) (omega arith) j lo (omega arith)
 
   then_up : n < 64 → bit w n ≡ true
   then_up h = let e : f + (n - f) ≡ n = omega arith in sym (ap (bit w) e) ∙ run_gap w f (n - f) (omega arith) (omega arith)
 
 -- a run of bits that are as v says, from f up to n: the others are down in `turned`
 module _ (v : Bool) (w turned f n : ℕ) (size : w < 2 ^ 64) (et : turned ≡ cond v (2 ^ 64 - 1 - w) w) (en : n ≡ min (f + count_trailing_zeros 64 (turned / 2 ^ f)) 64) where
-  small : turned < 2 ^ 64
-  small = ⊎_elim (λ e. let t : turned ≡ 2 ^ 64 - 1 - w = et ∙ ap (λ b. cond b (2 ^ 64 - 1 - w) w) e in omega arith) (λ e. let t : turned ≡ w = et ∙ ap (λ b. cond b (2 ^ 64 - 1 - w) w) e in omega arith) (cases_Bool v)
-
   as_turned : (j : ℕ) (b : Bool) → j < 64 → bit turned j ≡ b → bit w j ≡ cond v (not b) b
   as_turned j b l e = go v b et e
     where
@@ -154,14 +158,14 @@ module _ (v : Bool) (w turned f n : ℕ) (size : w < 2 ^ 64) (et : turned ≡ co
       go false b h e = sym (ap (λ x. bit x j) h) ∙ e
 
   pub run_all : (j : ℕ) → f ≤ j → j < n → bit w j ≡ v
-  run_all j lo hi = as_turned j false (omega arith) (all_down turned f n small en j lo hi) ∙ same v
+  run_all j lo hi = as_turned j false (omega arith) (all_down turned f n en j lo hi) ∙ same v
     where
       same : (u : Bool) → cond u true false ≡ u
       same true = refl
       same false = refl
 
   pub run_end_gap : n < 64 → bit w n ≡ not v
-  run_end_gap h = as_turned n true h (then_up turned f n small en h) ∙ other v
+  run_end_gap h = as_turned n true h (then_up turned f n en h) ∙ other v
     where
       other : (u : Bool) → cond u false true ≡ not u
       other true = refl
